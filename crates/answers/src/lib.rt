@@ -1,0 +1,3 @@
+// What the program answers, and how it is shown.
+pub mod answer;
+mod reasons;

@@ -1,0 +1,5 @@
+pub mod Admission
+pub mod Choice
+pub mod Lawful
+pub mod Least
+pub mod Places

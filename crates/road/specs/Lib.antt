@@ -1,0 +1,3 @@
+pub mod Refusals
+pub mod Roads
+pub mod Opening
