@@ -1,3 +1,4 @@
 // What the program answers, and how it is shown.
 pub mod answer;
+pub mod mistakes;
 mod reasons;

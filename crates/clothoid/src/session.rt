@@ -4,8 +4,9 @@ ghost use Rattle.std.specs.declared.option.Option.the-variants.{None};
 ghost use Rattle.clothoid.specs.Session.{Applied, Labels, Reopened, Counted, CountedOrSame, commentBytes};
 use answers::answer::Answer;
 use answers::answer::AnswerDisplay;
+use answers::mistakes::Mistaken;
+use answers::mistakes::MistakenDisplay;
 use commands::command::Command;
-use commands::mistake::ParseErrorDisplay;
 use commands::parse::parse_line;
 use label::Label;
 use road::class::Class;
@@ -133,7 +134,7 @@ impl Session {
                 Answer::NoRoad => self.error(out, Answer::NoRoad),
                 answer => writeln!(out, "{answer}"),
             },
-            Err(e) => self.error(out, e),
+            Err(mistake) => self.error(out, Mistaken(mistake)),
         }
     }
 
