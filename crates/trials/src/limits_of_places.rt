@@ -30,7 +30,7 @@ use road::road::Road;
 use std::test::*;
 
 // A place on C-100 with one lane of 3.5 m turning and the usual J.
-pub fn example_place(radius: u32, turn: u32) -> Result<Place, Refusal> {
+pub(crate) fn example_place(radius: u32, turn: u32) -> Result<Place, Refusal> {
     let road = Road::open(Class::C, 100, 3_500, 1, JerkChoice::Usual)?;
     Place::new(&road, radius, turn)
 }
