@@ -9,7 +9,6 @@ use std::fs;
 
 mod help;
 mod reader;
-mod session;
 
 use help::HELP;
 use help::USAGE;

@@ -2,7 +2,7 @@
 ghost use Rattle.std.specs.Of.Vec.{vec-items};
 ghost use Rattle.std.specs.Vec.{made};
 ghost use Rattle.clothoid.specs.Chunks.{Carried};
-use crate::session::Session;
+use session::Session;
 use std::error::AnyError;
 use std::io::BufWriter;
 use std::io::Read;
@@ -58,5 +58,5 @@ pub(crate) fn answer_all<R: Read + Drop>(rt: &LibcRuntime, mut reader: R) -> Res
         session.line(&mut out, pending.line())?;
     }
     out.flush()?;
-    Ok(session.wrong())
+    Ok(session.wrong)
 }

@@ -1,7 +1,7 @@
 // The open road, and how many lines came and how many of them were no commands.
 ghost use mathlib.Core.Path.{_≡_};
 ghost use Rattle.std.specs.declared.option.Option.the-variants.{None};
-ghost use Rattle.clothoid.specs.Session.{Applied, Labels, Reopened, Counted, CountedOrSame, commentBytes};
+ghost use Rattle.session.specs.Answering.{Applied, Labels, Reopened, Counted, CountedOrSame, commentBytes};
 use answers::answer::Answer;
 use answers::answer::AnswerDisplay;
 use answers::mistakes::Mistaken;
@@ -21,7 +21,8 @@ use text::lines::LONGEST;
 pub struct Session {
     road: Option<Road>,
     lines: u64,
-    wrong: u64,
+    // how many lines were no commands
+    pub wrong: u64,
 }
 
 // Whether the first byte after white space is '#'.
@@ -49,13 +50,6 @@ impl Session {
             lines: 0,
             wrong: 0,
         }
-    }
-
-    // How many lines were no commands.
-    pub fn wrong(&self) -> u64
-        ensures { λ r. ⌜ r ≡ now (self .entry) .wrong ⌝ }
-    {
-        self.wrong
     }
 
     // Opens a road; one that is refused leaves the road before.

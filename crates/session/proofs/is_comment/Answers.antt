@@ -5,8 +5,8 @@ use lib.Dec.{eqb}
 use lib.ListN.{length}
 use borrow.Author.Needs.{needs}
 use Rattle.std.proofs.shelf.Lists.{getD-past}
-use Rattle.clothoid.proofs.Comments.{comment-trimmed}
-use Rattle.clothoid.proofs.session.is_comment.Needs as need
+use Rattle.session.proofs.Comments.{comment-trimmed}
+use Rattle.session.proofs.is_comment.Needs as need
 
 pub returns-then-not-is-empty : need.returns-then-not-is-empty
 returns-then-not-is-empty c = comment-trimmed (c .args .bytes .now) (c .trim-ascii-start-rest .result .now) (c .trim-ascii-start-rest .ensures .value)

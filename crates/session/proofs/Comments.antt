@@ -9,7 +9,7 @@ use lib.Dec.{eqb}
 use lib.Seq.{getD-drop}
 use lib.ListN.{length, getD, drop}
 use Rattle.std.specs.Text.{asciiWhite}
-use Rattle.clothoid.specs.Session.{commentBytes}
+use Rattle.session.specs.Answering.{commentBytes}
 
 pub comment-after : (bs : List ℕ) (n : ℕ) → ((i : ℕ) → i < n → asciiWhite (getD bs i 0) ≡ true) → (n < length bs → asciiWhite (getD bs n 0) ≡ false) → commentBytes bs ≡ eqb (getD bs n 0) 35
 comment-after [] n white dark = refl
