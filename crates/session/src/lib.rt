@@ -1,7 +1,7 @@
 // The open road, and how many lines came and how many of them were no commands.
 ghost use mathlib.Core.Path.{_≡_};
 ghost use Rattle.std.specs.declared.option.Option.the-variants.{None};
-ghost use Rattle.session.specs.Answering.{Applied, Labels, Reopened, Counted, CountedOrSame, commentBytes};
+ghost use Rattle.session.specs.Answering.{Applied, Labels, Reopened, Counted, TextLeft, BytesLeft, LineLeft, Unmarked, commentBytes};
 use answers::answer::Answer;
 use answers::answer::AnswerDisplay;
 use answers::mistakes::Mistaken;
@@ -33,11 +33,14 @@ fn is_comment(bytes: &[u8]) -> bool
     !rest.is_empty() && rest[0] == b'#'
 }
 
-// A text without the byte order mark that some editors put at the front of a file.
-fn without_mark(text: &str) -> &str {
-    match text.strip_prefix('\u{feff}') {
-        Some(rest) => rest,
-        None => text,
+// The bytes without the byte order mark that some editors put at the front of a file.
+fn without_mark(bytes: &[u8]) -> &[u8]
+    ensures { λ r. ⌜ Unmarked (now (bytes .entry)) (now r) ⌝ }
+{
+    if bytes.len() >= 3 && bytes[0] == 0xef && bytes[1] == 0xbb && bytes[2] == 0xbf {
+        &bytes[3..]
+    } else {
+        bytes
     }
 }
 
@@ -119,7 +122,7 @@ impl Session {
 
     // Answers a line of text.
     fn text<W: Write>(&mut self, out: &mut W, text: &str) -> io::Result<()>
-        ensures wrong { λ _. ⌜ CountedOrSame (now (self .entry) .wrong) (now (self .exit) .wrong) ⌝ }
+        ensures left { λ _. ⌜ TextLeft (now (text .entry)) (now (self .entry) .road) (now (self .entry) .wrong) (now (self .exit) .road) (now (self .exit) .wrong) ⌝ }
         ensures lines { λ _. ⌜ now (self .exit) .lines ≡ now (self .entry) .lines ⌝ }
     {
         match parse_line(text) {
@@ -132,17 +135,12 @@ impl Session {
         }
     }
 
-    // Answers a line, as bytes without the newline; `None` is a line that is too long.
-    pub fn line<W: Write>(&mut self, out: &mut W, line: Option<&[u8]>) -> io::Result<()>
-        ensures wrong { λ _. ⌜ CountedOrSame (now (self .entry) .wrong) (now (self .exit) .wrong) ⌝ }
-        ensures lines { λ _. ⌜ Counted (now (self .entry) .lines) (now (self .exit) .lines) ⌝ }
+    // Answers a line of bytes.
+    fn bytes<W: Write>(&mut self, out: &mut W, bytes: &[u8]) -> io::Result<()>
+        ensures left { λ _. ⌜ BytesLeft (now (bytes .entry)) (now (self .entry) .road) (now (self .entry) .wrong) (now (self .exit) .road) (now (self .exit) .wrong) ⌝ }
+        ensures lines { λ _. ⌜ now (self .exit) .lines ≡ now (self .entry) .lines ⌝ }
     {
-        self.lines = self.lines.saturating_add(1);
-        let Some(bytes) = line else {
-            return self.error(out, format_args!("the line is longer than {LONGEST} bytes"));
-        };
         match std::str::from_utf8(bytes) {
-            Ok(text) if self.lines == 1 => self.text(out, without_mark(text)),
             Ok(text) => self.text(out, text),
             Err(_) if is_comment(bytes) => Ok(()),
             Err(e) => {
@@ -152,6 +150,20 @@ impl Session {
                     format_args!("after {valid} bytes the line is not UTF-8 text"),
                 )
             }
+        }
+    }
+
+    // Answers a line, as bytes without the newline; `None` is a line that is too long.
+    pub fn line<W: Write>(&mut self, out: &mut W, line: Option<&[u8]>) -> io::Result<()>
+        ensures left { λ _. ⌜ LineLeft (now (self .entry) .lines) (line .entry) (now (self .entry) .road) (now (self .entry) .wrong) (now (self .exit) .road) (now (self .exit) .wrong) ⌝ }
+        ensures lines { λ _. ⌜ Counted (now (self .entry) .lines) (now (self .exit) .lines) ⌝ }
+    {
+        let first = self.lines == 0;
+        self.lines = self.lines.saturating_add(1);
+        match line {
+            None => self.error(out, format_args!("the line is longer than {LONGEST} bytes")),
+            Some(bytes) if first => self.bytes(out, without_mark(bytes)),
+            Some(bytes) => self.bytes(out, bytes),
         }
     }
 }
