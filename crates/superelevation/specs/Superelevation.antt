@@ -36,7 +36,7 @@ levelFrom Three = 3_500_000
 -- Between the tightest radius and the least superelevation there is a formula for each group, with R the radius in metres:
 --   8 − 7.96 (1 − 1050 / R)^1.2,  8 − 7.3 (1 − 700 / R)^1.3,  7 − 6.65 (1 − 350 / R)^1.9  percent.
 -- That its value is c − 1/2 hundredths or more, so that it rounds to c or more, is a comparison of whole numbers
--- (both sides doubled, multiplied by the radius and raised): what the formula takes off the top against what c allows.
+-- (both sides doubled, raised to the fifth or tenth power, and multiplied by the radius' own power): what the formula takes off the top against what c allows.
 abbrev pub taken : Group → ℕ → ℕ
 taken One r = 1592 ^ 5 * (r - 1_050_000) ^ 6
 taken Two r = 1460 ^ 10 * (r - 700_000) ^ 13
