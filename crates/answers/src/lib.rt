@@ -1,4 +1,6 @@
 // What the program answers, and how it is shown.
+#![tactic(auto)]
+
 pub mod answer;
 pub mod mistakes;
 mod reasons;

@@ -1,4 +1,6 @@
 // A limit that is chosen by name at run time: one of the Norma's, or a client's table.
+#![tactic(auto)]
+
 ghost use Rattle.choice.specs.Chosen.{chosen, chosen_lawful};
 
 use client_table::table::ClientTable;

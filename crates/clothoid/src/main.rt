@@ -1,4 +1,6 @@
 // Answers commands on roads, a line each, from a file or from standard input.
+#![tactic(auto)]
+
 ghost use Rattle.std.specs.Prelude.{◌≡◌, is_ok, Decides};
 
 use anyhow::anyhow;

@@ -1,4 +1,6 @@
 // One line of text as a command.
+#![tactic(auto)]
+
 pub mod command;
 pub mod mistake;
 pub mod parse;

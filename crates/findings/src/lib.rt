@@ -1,4 +1,6 @@
 // The check of an alignment: the twelve rules, and every finding that they give.
+#![tactic(auto)]
+
 mod checking;
 mod context;
 mod counting;

@@ -1,4 +1,6 @@
 // The label of a curve: how long its clothoids must be, and why.
+#![tactic(auto)]
+
 ghost use Rattle.label.specs.Labels.{Labelled, ParameterOf};
 
 use limits::limit::Limit;

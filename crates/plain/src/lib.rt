@@ -1,4 +1,6 @@
 // The plain sheet: what each call makes of a road, a list of rows and a mark, and what it answers. Its definitions stand in specs/.
+#![tactic(auto)]
+
 use rows::row::Sense;
 
 // A row to be added, by its numbers, which may be outside their ranges.

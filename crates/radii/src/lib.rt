@@ -1,4 +1,6 @@
 // The radii that keep a rule: mm.
+#![tactic(auto)]
+
 ghost use Rattle.limits.specs.Least.{Smallest};
 ghost use Rattle.findings.specs.Rules.{Tabled, Follows};
 ghost use Rattle.radii.specs.Ranges.{RangeOf, WideEnough};

@@ -1,4 +1,6 @@
 // A roll: entries kept in order, without gaps, at the front of a lent slice.
+#![tactic(auto)]
+
 mod shift;
 
 ghost use Rattle.std.specs.Prelude.{◌≡◌, min, length};

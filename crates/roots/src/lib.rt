@@ -1,4 +1,6 @@
 // Exact square roots of whole numbers, and with them the parameter of a clothoid.
+#![tactic(auto)]
+
 ghost use Rattle.std.specs.Prelude.{◌+◌, ◌*◌, ◌^◌, ◌<◌, ◌≤◌};
 ghost use Rattle.roots.specs.Roots.{RootUp, Parameter};
 

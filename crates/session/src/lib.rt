@@ -1,4 +1,6 @@
 // The open road, and how many lines came and how many of them were no commands.
+#![tactic(auto)]
+
 ghost use Rattle.std.specs.Prelude.{◌≡◌, None};
 ghost use Rattle.session.specs.Answering.{Applied, Labels, Reopened, Counted, TextLeft, BytesLeft, LineLeft, Unmarked, comment_bytes};
 

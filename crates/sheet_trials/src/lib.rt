@@ -1,4 +1,6 @@
 // Trials of the sheet on cases worked out by hand. Each is proved safe, and then run.
+#![tactic(auto)]
+
 #[cfg(test)]
 mod checks;
 #[cfg(test)]

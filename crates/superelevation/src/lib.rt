@@ -1,5 +1,7 @@
 // The superelevation of a curve by Norma 3.1-IC (2016), Table 4.5.
 // Radii are whole millimetres, superelevations hundredths of a percent.
+#![tactic(auto)]
+
 ghost use Rattle.std.specs.Prelude.{◌≡◌, ℕ, ◌≤◌};
 ghost use Rattle.superelevation.specs.Superelevation.{superelevation_of, Superelevation};
 ghost use Rattle.superelevation.specs.Steps.{Increasing, Passed, StepTable};

@@ -1,4 +1,6 @@
 // Trials of the library on cases worked out elsewhere. Each is proved safe, and then run.
+#![tactic(auto)]
+
 #[cfg(test)]
 mod limits_of_places;
 #[cfg(test)]

@@ -1,4 +1,6 @@
 // Curves worked by hand: what the definitions give them, and what the code answers.
+#![tactic(auto)]
+
 ghost use Rattle.std.specs.Prelude.{◌≡◌, Ok};
 ghost use Rattle.worked.specs.Worked.{Worked, example_label};
 
