@@ -5,9 +5,9 @@ use Rattle.superelevation.proofs.Lookup.{increasing, looked_up}
 use Rattle.superelevation.proofs.Values.{known}
 use Rattle.superelevation.proofs.superelevation.Goals as goal
 
-pub steps-passed-requires : goal.steps-passed-requires
-steps-passed-requires c =
-    increasing c.args.group c.row-of-row.result.step_radii.now c.row-of-row.ensures.steps.rule
+pub steps_passed-requires : goal.steps_passed-requires
+steps_passed-requires c =
+    increasing c.args.group c.row_of-row.result.step_radii.now c.row_of-row.ensures.steps.rule
 
 pub returns-then-radius-row : goal.returns-then-radius-row
 returns-then-radius-row c =
@@ -26,9 +26,9 @@ returns-else-radius-row-2 c =
     let group = c.args.group in
     let short : c.args.radius < least_from_of group = omega arith in
     let curved : c.args.radius < level_from_of group = omega arith in
-    let found : Superelevation group c.args.radius (c.row-of-row.result.top - c.steps-passed.result) =
-    rw c.row-of-row.ensures.top
-    (looked_up group c.row-of-row.result.step_radii.now c.row-of-row.ensures.steps.rule c.args.radius c.steps-passed.result
-    c.steps-passed.ensures short curved) in
-    let k = known group c.args.radius (c.row-of-row.result.top - c.steps-passed.result) found in
+    let found : Superelevation group c.args.radius (c.row_of-row.result.top - c.steps_passed.result) =
+    rw c.row_of-row.ensures.top
+    (looked_up group c.row_of-row.result.step_radii.now c.row_of-row.ensures.steps.rule c.args.radius c.steps_passed.result
+    c.steps_passed.ensures short curved) in
+    let k = known group c.args.radius (c.row_of-row.result.top - c.steps_passed.result) found in
     record { table = k.table; only = k.only; value = k.value; bound = k.bound }

@@ -4,8 +4,8 @@ use Rattle.std.proofs.lemmas.Str.Parse.{digit_at, tells_by_index, numerals_by_va
 use Rattle.text.proofs.number.is_numeral.Goals as goal
 
 -- a byte that is no digit stands in no numeral
-pub returns-then-not-is-ascii-digit : goal.returns-then-not-is-ascii-digit
-returns-then-not-is-ascii-digit c = λ h. search (rules, digit_at c.args.word.now c.loop-b.b-index h.1 (omega arith), c.if-not-is-ascii-digit.ensures.cases)
+pub returns-then-not-is_ascii_digit : goal.returns-then-not-is_ascii_digit
+returns-then-not-is_ascii_digit c = λ h. search (rules, digit_at c.args.word.now c.loop-b.b-index h.1 (omega arith), c.if-not-is_ascii_digit.ensures.cases)
 
 pub returns : goal.returns
 returns c =

@@ -21,6 +21,6 @@ loop-asked-preserved g c =
 
 pub returns : goal.returns
 returns g c =
-    let asked = c.loop-asked.-asked in
+    let asked = c.loop-asked._asked in
     let enough : 21 ≤ asked = omega arith in
     closed asked c.loop-asked.low c.loop-asked.high enough c.loop-asked.invariant
