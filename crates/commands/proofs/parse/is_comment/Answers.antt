@@ -3,4 +3,4 @@ use Rattle.std.proofs.lemmas.Str.Pattern.{starts_char}
 use Rattle.commands.proofs.parse.is_comment.Goals as goal
 
 pub returns : goal.returns
-returns c = starts_char 35 c.args.word.now c.starts-with.result c.starts-with.ensures.cases (omega arith) (omega arith)
+returns c = starts_char 35 c.args.word.now c.starts_with.result c.starts_with.ensures.cases (omega arith) (omega arith)

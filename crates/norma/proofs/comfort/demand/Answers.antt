@@ -8,11 +8,11 @@ use Rattle.norma.proofs.comfort.demand.Goals as goal
 pub pow-centrifugal-requires : goal.pow-centrifugal-requires
 pow-centrifugal-requires c = omega (arith, pow-le-pow_left c.args.place.now.road.speeds.1 3)
 
-pub overflow-mul-centrifugal : goal.overflow-mul-centrifugal
-overflow-mul-centrifugal c = omega (arith, c.pow-centrifugal.ensures, pow-le-pow_left c.args.place.now.road.speeds.1 3)
+pub overflow_mul-centrifugal : goal.overflow_mul-centrifugal
+overflow_mul-centrifugal c = omega (arith, c.pow-centrifugal.ensures, pow-le-pow_left c.args.place.now.road.speeds.1 3)
 
-pub overflow-mul-banked-3 : goal.overflow-mul-banked-3
-overflow-mul-banked-3 c =
+pub overflow_mul-banked-3 : goal.overflow_mul-banked-3
+overflow_mul-banked-3 c =
     let p = c.args.place.now in
     Fits-below tt (mul-le-mul (mul-le-mul (mul-le-mul (le_refl 127000) p.road.speeds.1) p.slopes) p.radii.1)
 
@@ -23,4 +23,4 @@ stops a b = search rules
 pub returns : goal.returns
 returns c =
     let p = c.args.place.now in
-    c.saturating-sub.ensures ∙ rw c.pow-centrifugal.ensures (stops (10_000_000_000 * p.road.speed ^ 3) (127_000 * p.road.speed * p.superelevation * p.radius))
+    c.saturating_sub.ensures ∙ rw c.pow-centrifugal.ensures (stops (10_000_000_000 * p.road.speed ^ 3) (127_000 * p.road.speed * p.superelevation * p.radius))

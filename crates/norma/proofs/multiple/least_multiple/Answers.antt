@@ -9,12 +9,12 @@ returns-then-length c =
     let factor = c.args.factor in
     λ other t.
     let here = facts threshold (λ l. factor * l) other t in
-    omega (arith, here.0, least threshold factor c.div-ceil-length.result c.requires c.div-ceil-length.ensures other here.1)
+    omega (arith, here.0, least threshold factor c.div_ceil-length.result c.requires c.div_ceil-length.ensures other here.1)
 
 pub returns : goal.returns
 returns c =
     let threshold = c.args.threshold in
     let factor = c.args.factor in
-    smallest threshold (λ l. factor * l) c.div-ceil-length.result c.if-length.false
-    (reaches threshold factor c.div-ceil-length.result c.requires c.div-ceil-length.ensures)
-    (least threshold factor c.div-ceil-length.result c.requires c.div-ceil-length.ensures)
+    smallest threshold (λ l. factor * l) c.div_ceil-length.result c.if-length.false
+    (reaches threshold factor c.div_ceil-length.result c.requires c.div_ceil-length.ensures)
+    (least threshold factor c.div_ceil-length.result c.requires c.div_ceil-length.ensures)

@@ -3,7 +3,7 @@ use Rattle.std.proofs.Common.{mul-le-mul}
 use mir.Facts.{Fits-below}
 use Rattle.norma.proofs.transition.rise.Goals as goal
 
-pub overflow-mul-result-2 : goal.overflow-mul-result-2
-overflow-mul-result-2 c =
+pub overflow_mul-result-2 : goal.overflow_mul-result-2
+overflow_mul-result-2 c =
     let p = c.args.place.now in
     Fits-below tt (mul-le-mul (mul-le-mul p.slopes p.road.edges.1) p.road.factors.1)

@@ -17,20 +17,20 @@ returns-then-length-gt-LONGEST c =
     } in
     record { set = is_table _ _ _ false by; entries = by }
 
-pub returns-then-not-entry-allows : goal.returns-then-not-entry-allows
-returns-then-not-entry-allows c =
+pub returns-then-not-entry_allows : goal.returns-then-not-entry_allows
+returns-then-not-entry_allows c =
     let index = c.loop-index.index in
     let by : ByEntries c.args.self.now.bytes.now c.args.place.now c.args.length false = record {
       capped = λ never. elim never [ ];
       holds = λ never. elim never [ ];
-      suffices = λ top all. refused_by _ _ _ _ c.entry-at.ensures c.if-not-entry-allows.ensures (all index (omega arith));
+      suffices = λ top all. refused_by _ _ _ _ c.entry_at.ensures c.if-not-entry_allows.ensures (all index (omega arith));
     } in
     record { set = is_table _ _ _ false by; entries = by }
 
 pub loop-index-preserved : goal.loop-index-preserved
 loop-index-preserved c =
     let Allowed : ℕ → Type 0 = λ k. Allows (entry_at_lem c.args.self.now.bytes.now k) c.args.place.now.radius c.args.length in
-    below_more Allowed c.loop-index.index c.loop-index.invariant (allowed_by _ _ _ _ c.entry-at.ensures c.if-not-entry-allows.ensures)
+    below_more Allowed c.loop-index.index c.loop-index.invariant (allowed_by _ _ _ _ c.entry_at.ensures c.if-not-entry_allows.ensures)
 
 pub returns : goal.returns
 returns c =

@@ -13,7 +13,7 @@ loop-index-preserved c =
     let radius = c.args.place.now.radius in
     let Holds : ℕ → ℕ → Type 0 = λ k. Allows (entry_at_lem c.args.self.now.bytes.now k) radius in
     rw c.max-least.ensures (one_more Holds (λ k short long le allowed from to. omega (arith, allowed from to)) c.loop-index.index c.loop-index.least c.wanted.result c.loop-index.invariant
-    (subst (λ (entry : Entry). Smallest (Allows entry radius) c.wanted.result) c.entry-at.ensures c.wanted.ensures))
+    (subst (λ (entry : Entry). Smallest (Allows entry radius) c.wanted.result) c.entry_at.ensures c.wanted.ensures))
 
 pub returns-then-least-gt-LONGEST : goal.returns-then-least-gt-LONGEST
 returns-then-least-gt-LONGEST c =

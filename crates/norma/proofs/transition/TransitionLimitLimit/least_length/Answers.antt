@@ -14,4 +14,4 @@ returns-then-place-eq0 c =
     (level p.superelevation p.road.edge p.road.lane_factor (reach 0) c.if-place-eq0.true) (λ other _. omega arith)
 
 pub returns : goal.returns
-returns c = renamed _ _ _ _ _ c.rise.ensures c.slope.ensures.value c.least-multiple.ensures
+returns c = renamed _ _ _ _ _ c.rise.ensures c.slope.ensures.value c.least_multiple.ensures
