@@ -3,20 +3,20 @@ use Rattle.findings.proofs.Unique.{one_list}
 use Rattle.findings.proofs.Whole.{few_rows, many_rows, too_many, written, never_refused}
 use Rattle.findings.proofs.checking.check.Goals as goal
 
-pub returns-then-rows-gt-MOST-ROWS : goal.returns-then-rows-gt-MOST-ROWS
-returns-then-rows-gt-MOST-ROWS g c =
+pub returns-then-rows-gt-MOST_ROWS : goal.returns-then-rows-gt-MOST_ROWS
+returns-then-rows-gt-MOST_ROWS g c =
     record {
-      list = (many_rows c.args.road.now (g.L.Limit.admitted c.args.limit.now) c.args.rows.now c.if-rows-gt-MOST-ROWS.true, refl);
+      list = (many_rows c.args.road.now (g.L.Limit.admitted c.args.limit.now) c.args.rows.now c.if-rows-gt-MOST_ROWS.true, refl);
       one = one_list;
     }
 
-pub returns-then-not-has-room : goal.returns-then-not-has-room
-returns-then-not-has-room g c =
+pub returns-then-not-has_room : goal.returns-then-not-has_room
+returns-then-not-has_room g c =
     record {
       list = (
-        few_rows c.args.road.now (g.L.Limit.admitted c.args.limit.now) c.args.rows.now c.if-rows-gt-MOST-ROWS.false,
+        few_rows c.args.road.now (g.L.Limit.admitted c.args.limit.now) c.args.rows.now c.if-rows-gt-MOST_ROWS.false,
         too_many c.args.road.now (g.L.Limit.admitted c.args.limit.now) c.args.rows.now (g.L.Limit.lawful c.args.limit.now) _
-            (sym c.has-room.ensures ∙ c.if-not-has-room.true),
+            (sym c.has_room.ensures ∙ c.if-not-has_room.true),
         refl,
       );
       one = one_list;
@@ -26,9 +26,9 @@ pub returns-in-Ok : goal.returns-in-Ok
 returns-in-Ok g c =
     record {
       list = (
-        few_rows c.args.road.now (g.L.Limit.admitted c.args.limit.now) c.args.rows.now c.if-rows-gt-MOST-ROWS.false,
+        few_rows c.args.road.now (g.L.Limit.admitted c.args.limit.now) c.args.rows.now c.if-rows-gt-MOST_ROWS.false,
         written c.args.road.now (g.L.Limit.admitted c.args.limit.now) c.args.rows.now (g.L.Limit.lawful c.args.limit.now)
-            c.args.memory.now _ c.len.result c.empty-findings.result c.report-rows.new.findings (search rules)
+            c.args.memory.now _ c.len.result c.empty-findings.result c.report_rows.new.findings (search rules)
             c.empty-findings.ensures.slots c.empty-findings.ensures.count c.len.ensures c.in-Ok.ensures.report,
       );
       one = one_list;
@@ -38,5 +38,5 @@ pub returns-in-Err : goal.returns-in-Err
 returns-in-Err g c =
     absurd
     (never_refused c.args.road.now (g.L.Limit.admitted c.args.limit.now) c.args.rows.now c.args.memory.now c.empty-findings.result
-    (sym c.has-room.ensures ∙ c.if-not-has-room.false) c.empty-findings.ensures.slots c.empty-findings.ensures.count
+    (sym c.has_room.ensures ∙ c.if-not-has_room.false) c.empty-findings.ensures.slots c.empty-findings.ensures.count
     c.in-Err.ensures.report)

@@ -8,9 +8,9 @@ pub returns : goal.returns
 returns g c =
     record {
       value =
-          context_is c.args.road.now (g.L.Limit.admitted c.args.limit.now) c.args.behind c.look-ahead.result c.clothoids.result
+          context_is c.args.road.now (g.L.Limit.admitted c.args.limit.now) c.args.behind c.look_ahead.result c.clothoids.result
           c.read-row.result _ (map row_of (drop (c.args.place + 1) c.args.rows.now))
           (c.read-row.ensures ∙ ap row_of (get_or_default c.args.rows.now c.args.place _ blank_record c.requires.within))
-          c.clothoids.ensures c.look-ahead.ensures.value;
-      bound = c.look-ahead.ensures.bound;
+          c.clothoids.ensures c.look_ahead.ensures.value;
+      bound = c.look_ahead.ensures.bound;
     }

@@ -12,22 +12,22 @@ pub loop-kind-preserved : goal.loop-kind-preserved
 unfolding kinds
 loop-kind-preserved c =
     let inv = c.loop-kind.invariant in
-    let done = c.in-ok-report-kind.ensures in (
+    let done = c.in_ok-report_kind.ensures in (
       done.same ∙ inv.0,
-      more_put c.args.findings.now c.loop-kind.findings c.report-kind.new.findings _ _ _ _
+      more_put c.args.findings.now c.loop-kind.findings c.report_kind.new.findings _ _ _ _
           (at_drop_more (gathered c.args.road.now c.args.place c.args.at.now) kinds c.loop-kind.kind-index _ c.loop-kind-test.true)
           done.report inv.1,
     )
 
-pub returns-in-err-report-kind : goal.returns-in-err-report-kind
+pub returns-in_err-report_kind : goal.returns-in_err-report_kind
 unfolding kinds
-returns-in-err-report-kind c =
+returns-in_err-report_kind c =
     let inv = c.loop-kind.invariant in
-    let done = c.in-err-report-kind.ensures in
+    let done = c.in_err-report_kind.ensures in
     record {
       same = done.same ∙ inv.0;
       report =
-          refused_put c.args.findings.now c.report-kind.new.findings _ c.from-residual.result c.from-residual.ensures.0
+          refused_put c.args.findings.now c.report_kind.new.findings _ c.from_residual.result c.from_residual.ensures.0
           (no_room c.args.findings.now c.loop-kind.findings _ _ _ _
           (at_drop_more (gathered c.args.road.now c.args.place c.args.at.now) kinds c.loop-kind.kind-index _ c.loop-kind-test.true)
           done.report inv.1);

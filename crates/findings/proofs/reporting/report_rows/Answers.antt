@@ -6,26 +6,26 @@ use Rattle.findings.proofs.reporting.report_rows.Goals as goal
 pub loop-place-preserved : goal.loop-place-preserved
 loop-place-preserved g c =
     let inv = c.loop-place.invariant in
-    let done = c.in-ok-report-row.ensures in
+    let done = c.in_ok-report_row.ensures in
     let more =
     list_more c.args.road.now (g.L.Limit.admitted c.args.limit.now) c.args.rows.now c.loop-place.place c.loop-place.behind
     c.passed-behind.result c.context-at.result c.loop-place-test.true c.context-at.ensures.value (sym c.passed-behind.ensures.value) in (
       done.same ∙ inv.0,
-      more_put c.args.findings.now c.loop-place.findings c.report-row.new.findings _ _ _ _ more done.report inv.1,
+      more_put c.args.findings.now c.loop-place.findings c.report_row.new.findings _ _ _ _ more done.report inv.1,
       omega arith,
     )
 
-pub returns-in-err-report-row : goal.returns-in-err-report-row
-returns-in-err-report-row g c =
+pub returns-in_err-report_row : goal.returns-in_err-report_row
+returns-in_err-report_row g c =
     let inv = c.loop-place.invariant in
-    let done = c.in-err-report-row.ensures in
+    let done = c.in_err-report_row.ensures in
     let more =
     list_more c.args.road.now (g.L.Limit.admitted c.args.limit.now) c.args.rows.now c.loop-place.place c.loop-place.behind _
     c.context-at.result c.loop-place-test.true c.context-at.ensures.value refl in
     record {
       same = done.same ∙ inv.0;
       report =
-          refused_put c.args.findings.now c.report-row.new.findings _ c.from-residual.result c.from-residual.ensures.0
+          refused_put c.args.findings.now c.report_row.new.findings _ c.from_residual.result c.from_residual.ensures.0
           (no_room c.args.findings.now c.loop-place.findings _ _ _ _ more done.report inv.1);
     }
 

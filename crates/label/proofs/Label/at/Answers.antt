@@ -3,20 +3,20 @@ use Rattle.label.proofs.Label.at.Goals as goal
 
 pub returns : goal.returns
 returns c =
-    let made = c.in-ok-place.ensures in (
+    let made = c.in_ok-place.ensures in (
       made.0,
       (
-        c.in-ok-place.place,
+        c.in_ok-place.place,
         made.1,
         record {
           banked = refl;
-          by_comfort = c.least-length.ensures;
-          by_transition = c.least-length-2.ensures;
-          by_azimuth = c.least-length-3.ensures;
-          by_shift = c.least-length-4.ensures;
-          by_fifth = c.least-length-5.ensures;
-          by_compulsory = c.compulsory-length-least.ensures;
-          parameter = c.parameter-at.ensures;
+          by_comfort = c.least_length.ensures;
+          by_transition = c.least_length-2.ensures;
+          by_azimuth = c.least_length-3.ensures;
+          by_shift = c.least_length-4.ensures;
+          by_fifth = c.least_length-5.ensures;
+          by_compulsory = c.compulsory_length-least.ensures;
+          parameter = c.parameter_at.ensures;
         },
       ),
     )
