@@ -2,20 +2,20 @@ use Rattle.std.proofs.Common.{sym, ◌∙◌, le_trans, arith}
 use Rattle.findings.specs.Walk.{kinds}
 use Rattle.findings.proofs.Steps.{count_put, count_pass, count_all}
 use Rattle.findings.proofs.counting.count_row.Goals as goal
-use Rattle.findings.proofs.counting.count_row.Goals.{then-is-broken, else-is-broken}
+use Rattle.findings.proofs.counting.count_row.Goals.{then-is_broken, else-is_broken}
 
 pub loop-kind-preserved : goal.loop-kind-preserved
 unfolding kinds
 loop-kind-preserved c =
-    elim c.if-is-broken.branch [
-      | then-is-broken w ↦ (
+    elim c.if-is_broken.branch [
+      | then-is_broken w ↦ (
         count_put c.args.road.now c.args.at.now kinds c.loop-kind.kind-index _ c.loop-kind-test.true c.loop-kind.count _ _ w.count-is
-            (sym c.is-broken.ensures ∙ w.if-is-broken.true) c.loop-kind.invariant.0,
+            (sym c.is_broken.ensures ∙ w.if-is_broken.true) c.loop-kind.invariant.0,
         omega (arith, w.count-is),
       )
-      | else-is-broken w ↦ (
+      | else-is_broken w ↦ (
         count_pass c.args.road.now c.args.at.now kinds c.loop-kind.kind-index _ c.loop-kind-test.true c.loop-kind.count _ _ w.count-is
-            (sym c.is-broken.ensures ∙ w.if-is-broken.false) c.loop-kind.invariant.0,
+            (sym c.is_broken.ensures ∙ w.if-is_broken.false) c.loop-kind.invariant.0,
         omega (arith, w.count-is),
       )
     ]
