@@ -6,5 +6,5 @@ use Rattle.radii.proofs.least_radius.Goals as goal
 pub returns : goal.returns
 returns c =
     let turn = c.args.curve.now.turn in
-    let Least : ℕ → Type 0 = λ missing. Smallest (λ radius. 1_591_500 * missing ≤ radius * turn) c.div-ceil.result in
-    subst Least c.saturating-sub.ensures (rounded_up _ turn c.div-ceil.result (omega arith) c.div-ceil.ensures)
+    let Least : ℕ → Type 0 = λ missing. Smallest (λ radius. 1_591_500 * missing ≤ radius * turn) c.div_ceil.result in
+    subst Least c.saturating_sub.ensures (rounded_up _ turn c.div_ceil.result (omega arith) c.div_ceil.ensures)
