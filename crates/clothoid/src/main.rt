@@ -5,6 +5,7 @@ ghost use Rattle.std.specs.Prelude.{◌≡◌, is_ok, Decides};
 
 use anyhow::anyhow;
 use std::alloc::Global;
+use std::process::ExitCode;
 use std::{env, fs};
 
 mod help;
@@ -41,17 +42,17 @@ fn run(rt: &HostRuntime) -> anyhow::Result<()> {
     if args.next().is_some() {
         return Err(anyhow!(format!(in rt.alloc(); "more than one argument; {USAGE}")?));
     }
-    if word == "--help" || word == "-h" {
+    if word.as_str() == "--help" || word.as_str() == "-h" {
         print!(rt; "{USAGE}\n\n{HELP}")?;
         return Ok(());
     }
     answer_file(rt, word.as_str())
 }
 
-fn main(rt: HostRuntime) -> anyhow::Result<()> {
-    let result = run(&rt);
-    if let Err(e) = &result {
+fn main(rt: HostRuntime) -> ExitCode {
+    if let Err(e) = run(&rt) {
         let _ = eprintln!(rt; "clothoid: {e}");
+        return ExitCode::FAILURE;
     }
-    result
+    ExitCode::SUCCESS
 }
