@@ -4,7 +4,6 @@ use Rattle.std.proofs.Common.{le_trans, leb→le, le→leb}
 use Rattle.limits.specs.declared.place.Place.{Place}
 use Rattle.limits.specs.Admission.{UpToLongest}
 use Rattle.limits.specs.Lawful.{and, and_parts, capped_lawful}
-use Rattle.client_table.specs.declared.entry.Entry.{Entry}
 use Rattle.client_table.specs.Tables.{allows, entry_at_lem, each_allows, table}
 
 unless_rises : (a b : Bool) (least short long : ℕ) → short ≤ long → T (cond a (cond b (leb least short) true) true) → T (cond a (cond b (leb least long) true) true)

@@ -1,19 +1,16 @@
 -- What the clothoids of a row are held to.
-use Rattle.std.proofs.Common.{◌≡◌, ℕ, ◌≤◌, Bool, true, false, cond, ltb, leb, Decides, Option, sym, refl, ap, ◌∙◌, arith}
+use Rattle.std.proofs.Common.{◌≡◌, ℕ, ◌≤◌, Bool, true, ltb, leb, Decides, Option, ap, ◌∙◌}
 use Rattle.std.proofs.lemmas.Bool.{le-leb, leb-true}
 use Rattle.std.proofs.lemmas.Bool.Decides.{same_from_decides, Decides-and, Decides-ltb}
 use Rattle.limits.specs.Admission.{In, UpToLongest}
 use Rattle.limits.specs.Least.{LeastOf}
-use Rattle.limits.specs.declared.place.Place.{Place}
 use Rattle.road.specs.declared.road.Road.{Road}
 use Rattle.rows.proofs.Leasts.{is_least_in}
 use Rattle.rows.specs.declared.row.Curve.{Curve}
 use Rattle.rows.specs.declared.row.Row.{Row}
 use Rattle.rows.specs.declared.row.Row.TheVariants as row
 use Rattle.rows.specs.Curves.{place_of, calls_below_lem, Calling}
-use Rattle.rows.specs.Leasts.{least_in}
-use Rattle.findings.specs.declared.walk.Clothoids.{Clothoids}
-use Rattle.findings.specs.declared.walk.Clothoids.TheVariants.{Uncalled, Called}
+use Rattle.findings.specs.declared.walk.Clothoids.TheVariants.{Called}
 use Rattle.findings.specs.Rules.{Admission}
 use Rattle.findings.specs.Walk.{calls, clothoids_of}
 

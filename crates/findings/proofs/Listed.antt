@@ -1,6 +1,5 @@
 -- The computed list is the list of the findings.
-use Rattle.std.proofs.Common.{◌≡◌, ℕ, suc, ◌+◌, ◌*◌, ◌<◌, ◌≤◌, Bool, true, false, ◌⊎◌, List, [], ◌∷◌, ◌++◌, length, refl, ap, ◌∙◌, subst, inl, inr, arith, lit<}
-use Rattle.std.proofs.lemmas.List.{length-append}
+use Rattle.std.proofs.Common.{◌≡◌, ℕ, suc, ◌+◌, ◌*◌, ◌<◌, Bool, true, false, ◌⊎◌, List, [], ◌∷◌, ◌++◌, length, refl, ap, ◌∙◌, subst, inl, inr, arith, lit<}
 use Rattle.std.proofs.lemmas.Bool.{cases_order, false≢true}
 use Rattle.road.specs.declared.road.Road.{Road}
 use Rattle.limits.specs.declared.place.Place.{Place}
@@ -14,7 +13,7 @@ use Rattle.findings.specs.declared.kind.Kind.TheVariants.{UnadmittedEntry, Unadm
 use Rattle.findings.specs.declared.walk.Context.{Context}
 use Rattle.findings.specs.declared.walk.Stretch.{Stretch}
 use Rattle.findings.specs.Rules.{Admission}
-use Rattle.findings.specs.Findings.{rule_number, side_number, rule_of_lem, side_of, finding_of_lem, Sooner, Among, Ordered, Found, FindingsOf}
+use Rattle.findings.specs.Findings.{rule_number, side_number, rule_of_lem, side_of, finding_of_lem, Sooner, Among, Ordered, FindingsOf}
 use Rattle.findings.specs.Walk.{nothing, past, walked, context_of, breaks, kinds, given, gathered, listed}
 use Rattle.findings.proofs.Decide.{decides}
 

@@ -1,6 +1,6 @@
 -- The twelve rules: when each kind of finding is given for a row, by the rows before it and the rows after it.
 -- Lengths and radii in mm, turns in ten-thousandths of a gon, speeds in km/h.
-use Rattle.std.specs.Prelude.{◌≡◌, ℕ, ◌+◌, ◌-◌, ◌*◌, ◌<◌, ◌≤◌, Bool, cond, T, List, [], ◌∷◌, ◌==◌, ◌≢◌, nat_le}
+use Rattle.std.specs.Prelude.{◌≡◌, ℕ, ◌+◌, ◌-◌, ◌*◌, ◌<◌, ◌≤◌, Bool, cond, List, [], ◌==◌, ◌≢◌, nat_le}
 use Rattle.superelevation.specs.declared.group.Group.{Group}
 use Rattle.superelevation.specs.declared.group.Group.TheVariants.{One, Two, Three}
 use Rattle.road.specs.declared.class.Class.TheVariants.{C}

@@ -1,5 +1,5 @@
 // Findings put into a roll, one after another.
-ghost use Rattle.std.specs.Prelude.{◌≡◌, ◌≤◌, map, length};
+ghost use Rattle.std.specs.Prelude.{◌≤◌, map, length};
 ghost use Rattle.roll.specs.Edits.{SameLoan};
 ghost use Rattle.rows.specs.Reading.{row_of};
 ghost use Rattle.findings.specs.Findings.{finding_of_lem};

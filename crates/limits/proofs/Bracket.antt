@@ -1,5 +1,5 @@
 -- The search for the smallest admitted length: it lies from low to high, of which high is admitted.
-use Rattle.std.proofs.Common.{◌≡◌, ℕ, ◌+◌, ◌-◌, ◌*◌, ◌/◌, ◌^◌, ◌<◌, ◌≤◌, Bool, true, false, T, sym, subst, inl, inr, mul-le-mul_right, mul-le-mul, pow-suc, add-one, arith, pow_mono}
+use Rattle.std.proofs.Common.{◌≡◌, ℕ, ◌+◌, ◌-◌, ◌*◌, ◌/◌, ◌^◌, ◌≤◌, Bool, true, false, T, sym, subst, inl, inr, mul-le-mul_right, mul-le-mul, pow-suc, add-one, arith, pow_mono}
 use Rattle.std.proofs.lemmas.Bool.{cases_lt}
 use Rattle.limits.specs.Admission.{In, UpToLongest}
 use Rattle.limits.specs.Least.{Smallest}

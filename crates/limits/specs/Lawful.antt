@@ -1,7 +1,7 @@
 -- Proofs that sets put together keep what every set of admitted lengths keeps. There is nothing here to believe.
 use Rattle.std.specs.Prelude.{ℕ, ◌*◌, ◌≤◌, Bool, true, false, cond, T, nat_le}
 use Rattle.std.proofs.Common.{le_trans, mul-le-mul_left, leb→le, le→leb}
-use Rattle.limits.specs.Admission.{In, UpToLongest, up_to_longest, both}
+use Rattle.limits.specs.Admission.{UpToLongest, up_to_longest, both}
 
 pub and : (a b : Bool) → T a → T b → T (cond a b false)
 and true b p q = q

@@ -1,5 +1,5 @@
 -- The lengths up to the longest for which a comparison holds, as facts in place of tests.
-use Rattle.std.proofs.Common.{◌≡◌, ℕ, ◌*◌, ◌≤◌, T, leb, Option, le→leb, leb→le}
+use Rattle.std.proofs.Common.{◌≡◌, ℕ, ◌*◌, ◌≤◌, leb, Option, le→leb, leb→le}
 use Rattle.limits.specs.Admission.{In, up_to_longest}
 use Rattle.limits.specs.Lawful.{and, and_parts}
 use Rattle.limits.specs.Least.{Smallest, LeastOf}

@@ -1,5 +1,5 @@
 // The closed form of most limits: a quotient rounded up.
-ghost use Rattle.std.specs.Prelude.{◌*◌, ◌<◌, ◌≤◌, nat_le};
+ghost use Rattle.std.specs.Prelude.{◌*◌, ◌<◌, nat_le};
 ghost use Rattle.limits.specs.Admission.{In, up_to_longest};
 ghost use Rattle.limits.specs.Least.{LeastOf};
 

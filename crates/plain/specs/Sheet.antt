@@ -1,6 +1,6 @@
 -- The plain sheet, and the one relation that every call of a sheet keeps: the sheet before, the call with its operands, its limit's meaning
 -- and how many rows and findings its memories can hold; the answer; the sheet after.
-use Rattle.std.specs.Prelude.{◌≡◌, ℕ, ◌<◌, ◌≤◌, Bool, ◌⊎◌, List, [], ◌∷◌, length, set, slice_index_or, slice_set}
+use Rattle.std.specs.Prelude.{◌≡◌, ℕ, ◌<◌, ◌≤◌, Bool, ◌⊎◌, List, [], ◌∷◌, length, slice_index_or, slice_set}
 use Rattle.std.specs.List.{insert, remove}
 use Rattle.roots.specs.Roots.{Parameter}
 use Rattle.road.specs.declared.road.Road.{Road}
@@ -11,7 +11,6 @@ use Rattle.limits.specs.Admission.{UpToLongest}
 use Rattle.rows.specs.declared.row.Curve.{Curve}
 use Rattle.rows.specs.declared.row.Row.{Row}
 use Rattle.rows.specs.declared.row.Row.TheVariants as row
-use Rattle.rows.specs.declared.row.Sense.{Sense}
 use Rattle.rows.specs.declared.row.Straight.{Straight}
 use Rattle.findings.specs.declared.finding.Finding.{Finding}
 use Rattle.findings.specs.Findings.{FindingsOf}

@@ -1,15 +1,13 @@
 -- A fact on ranges has one proof at most, so a row is known by its numbers.
-use Rattle.std.proofs.Common.{◌≡◌, ℕ, ◌≤◌, Some, None, Option, sym, refl, ap, ◌∙◌}
+use Rattle.std.proofs.Common.{◌≡◌, ℕ, Some, sym, ap, ◌∙◌}
 use mathlib.Core.HLevel.{×_prop}
 use native.Mathlib.Bridge.{le_prop}
 use Rattle.rows.specs.Ranges.{InRange, StraightInRange, CurveInRange}
 use Rattle.rows.specs.Reading.{where_holds, straight_of, straight_row_lem, curve_of, curve_row_lem, blank_row, row_of, record_of}
 use Rattle.rows.specs.declared.record.RowRecord.{RowRecord}
-use Rattle.rows.specs.declared.row.Curve.{Curve}
 use Rattle.rows.specs.declared.row.Row.{Row}
 use Rattle.rows.specs.declared.row.Row.TheVariants as row
 use Rattle.rows.specs.declared.row.Sense.{Sense}
-use Rattle.rows.specs.declared.row.Straight.{Straight}
 
 pub range_prop : (low high n : ℕ) → IsProp (InRange low high n)
 range_prop low high n = ×_prop le_prop le_prop

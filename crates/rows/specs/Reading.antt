@@ -1,8 +1,8 @@
 -- The row that a plain record stands for, and the record of a row.
-use Rattle.std.specs.Prelude.{ℕ, ◌≤◌, List, map, take, Some, None, Option}
+use Rattle.std.specs.Prelude.{ℕ, List, map, take, Some, None, Option}
 use Rattle.std.proofs.Common.{lit≤}
 use Rattle.std.proofs.Math.Decide.{dec_le}
-use Rattle.rows.specs.Ranges.{InRange, StraightInRange, CurveInRange}
+use Rattle.rows.specs.Ranges.{InRange}
 use Rattle.rows.specs.declared.record.RowRecord.{RowRecord}
 use Rattle.rows.specs.declared.record.RowRecord.TheVariants as stored
 use Rattle.rows.specs.declared.row.Curve.{Curve}

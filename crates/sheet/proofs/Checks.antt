@@ -1,5 +1,5 @@
 -- A check of the first rows is the plain sheet's, under either mark.
-use Rattle.std.proofs.Common.{◌≡◌, ℕ, ◌+◌, ◌-◌, ◌<◌, ◌≤◌, List, [], ◌∷◌, ◌++◌, map, length, take, drop, Ok, Err, sym, refl, ap, ◌∙◌, subst, inl, inr, arith}
+use Rattle.std.proofs.Common.{◌≡◌, ℕ, ◌+◌, ◌<◌, ◌≤◌, List, length, take, drop, Ok, Err, sym, refl, ap, ◌∙◌, subst, inl, inr, arith}
 use Rattle.std.proofs.lemmas.List.{length-take-le, length-map, length-append, length-drop, take_at, drop_at}
 use Rattle.road.specs.declared.road.Road.{Road}
 use Rattle.rows.specs.declared.record.RowRecord.{RowRecord}

@@ -14,7 +14,7 @@ use Rattle.rows.specs.declared.row.Row.TheVariants as row
 use Rattle.rows.specs.Reading.{row_of, rows_of, record_of, blank_record}
 use Rattle.plain.specs.declared.NewRow.{NewRow}
 use Rattle.plain.specs.declared.NewRow.TheVariants as new
-use Rattle.plain.specs.Sheet.{draft, RowAt, with_rows, Given, WithLengths, add, take_out, set_lengths, Call, named, Answer, done, refused, Stopped, Allowed, grounds, number_grounds, Effect, refusing, carrying}
+use Rattle.plain.specs.Sheet.{draft, RowAt, with_rows, Given, WithLengths, add, take_out, set_lengths, Call, named, Answer, done, refused, Allowed, grounds, number_grounds, Effect, refusing, carrying}
 use Rattle.sheet.specs.States.{State, shown, given_record, refusal, Relengthened, MemoryAfter, Performs}
 use Rattle.sheet.proofs.RowEdits.{rows_inserted, rows_removed, rows_set, length_inserted_within, length_removed_within}
 

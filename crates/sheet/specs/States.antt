@@ -13,7 +13,7 @@ use Rattle.rows.specs.Reading.{row_of, rows_of, blank_record}
 use Rattle.findings.specs.declared.finding.Finding.{Finding}
 use Rattle.plain.specs.declared.NewRow.{NewRow}
 use Rattle.plain.specs.declared.NewRow.TheVariants as new
-use Rattle.plain.specs.Sheet.{Mark, draft, fitted, Plain, Call, add, take_out, set_lengths, check, fit, parameter, reopen, Answer, done, found, value, refused, barred, Stopped, number_grounds, Given, WithLengths, StepAt}
+use Rattle.plain.specs.Sheet.{Mark, draft, Plain, Call, add, take_out, set_lengths, check, fit, parameter, reopen, Answer, done, found, refused, Stopped, number_grounds, Given, WithLengths, StepAt}
 use Rattle.sheet.specs.declared.draft.Draft.{Draft}
 
 -- A sheet's numbers, with the row memory that is lent to it.

@@ -1,5 +1,5 @@
 -- The line that is being read.
-use Rattle.std.specs.Prelude.{◌≡◌, ℕ, ◌+◌, ◌<◌, ◌≤◌, Bool, true, false, ◌⊎◌, List, [], ◌∷◌, ◌++◌, length, MatchBool, ◌≢◌, slice_index}
+use Rattle.std.specs.Prelude.{◌≡◌, ℕ, ◌+◌, ◌<◌, ◌≤◌, Bool, false, List, ◌++◌, length, MatchBool, ◌≢◌, slice_index}
 
 -- a part is added where the line stays within 16,384 bytes; past that the line is too long, and nothing more is kept
 abbrev pub Grown : Bool → List ℕ → List ℕ → Bool → List ℕ → Type 0

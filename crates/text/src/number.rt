@@ -1,5 +1,5 @@
 // A number as it stands in a line: decimal digits and no sign, leading zeros allowed.
-ghost use Rattle.std.specs.Prelude.{◌≡◌, ℕ, ◌-◌, ◌^◌, min, MatchBool};
+ghost use Rattle.std.specs.Prelude.{◌-◌, ◌^◌, min, MatchBool};
 ghost use Rattle.std.specs.Option.{SomeIff};
 ghost use Rattle.std.specs.Str.Parse.{IsNumeral, digits_value};
 

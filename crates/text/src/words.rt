@@ -1,5 +1,5 @@
 // The words of a line.
-ghost use Rattle.std.specs.Prelude.{◌≡◌, ◌≤◌, length, take};
+ghost use Rattle.std.specs.Prelude.{◌≤◌, length, take};
 ghost use Rattle.text.specs.Words.{Words};
 
 // Puts the words of the line, or the first of them where there are more than `words` holds, to the front of `words`, and says how many they are.

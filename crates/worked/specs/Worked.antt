@@ -10,7 +10,7 @@ use Rattle.road.specs.Opening.{Holds}
 use Rattle.limits.specs.declared.place.Place.{Place}
 use Rattle.limits.specs.Admission.{In}
 use Rattle.limits.specs.Least.{Smallest}
-use Rattle.norma.specs.Formulas.{comfort, transition, azimuth, shift, fifth_of_turn, compulsory}
+use Rattle.norma.specs.Formulas.{comfort, transition, azimuth, shift, fifth_of_turn}
 use Rattle.label.specs.declared.Label.{Label}
 
 -- The example road: C-100, edge distance 3,500 mm, one lane turning, the usual J.

@@ -1,4 +1,4 @@
-use Rattle.std.proofs.Common.{ℕ, ◌≤◌, arith}
+use Rattle.std.proofs.Common.{arith}
 use Rattle.roots.proofs.Newton.{past, within}
 use Rattle.roots.proofs.root_up.Goals as goal
 

@@ -1,5 +1,5 @@
 -- The steps passed say how far below the top the superelevation is.
-use Rattle.std.proofs.Common.{ℕ, ◌-◌, ◌<◌, arith, rules}
+use Rattle.std.proofs.Common.{◌-◌, ◌<◌, arith, rules}
 use Rattle.superelevation.specs.Superelevation.{least_from_of, level_from_of, Superelevation}
 use Rattle.superelevation.proofs.Lookup.{increasing, looked_up}
 use Rattle.superelevation.proofs.Values.{known}

@@ -1,4 +1,4 @@
-use Rattle.std.proofs.Common.{List, map, drop, sym, ◌∙◌, arith}
+use Rattle.std.proofs.Common.{List, map, sym, ◌∙◌, arith}
 use Rattle.std.proofs.lemmas.List.{at_drop_all}
 use Rattle.rows.specs.declared.record.RowRecord.{RowRecord}
 use Rattle.rows.specs.Reading.{row_of}

@@ -1,5 +1,5 @@
 use Rattle.std.proofs.Common.{sym, refl, ◌∙◌, arith}
-use Rattle.findings.proofs.Reports.{none_put, more_put, no_room, all_put, refused_put}
+use Rattle.findings.proofs.Reports.{more_put, no_room, all_put, refused_put}
 use Rattle.findings.proofs.Steps.{list_more, list_all}
 use Rattle.findings.proofs.reporting.report_rows.Goals as goal
 

@@ -1,9 +1,7 @@
-use mathlib.Core.Bool.{Bool, true, false}
-use mathlib.Core.Path.{◌≡◌}
-use Prim.Native.Nat.{ℕ, ◌+◌, ◌*◌, ◌≤◌}
+use mathlib.Core.Bool.{true, false}
+use Prim.Native.Nat.{ℕ}
 use borrow.Author.Count.{below_more}
 use native.Mathlib.Omega.{arith}
-use lib.Dec.{T}
 use Rattle.client_table.specs.Tables.{entry_at_lem, Allows, ByEntries}
 use Rattle.client_table.proofs.Whole.{is_table, allowed_by, refused_by}
 use Rattle.client_table.proofs.table.ClientTableLimit.admits.Goals as goal
