@@ -11,7 +11,7 @@ use rows::record::RowRecord;
 use rows::row::Row;
 
 // What lies behind, one row on.
-pub fn passed(behind: Stretch, row: Row) -> Stretch
+pub(crate) fn passed(behind: Stretch, row: Row) -> Stretch
     requires { behind.run ≤ 80_000_000_000 }
     ensures value { result ≡ past behind row }
     ensures bound { result.run ≤ behind.run + 20_000_000 }
@@ -91,7 +91,7 @@ fn clothoids<L: Limit>(road: &Road, limit: &L, row: Row) -> Clothoids
 }
 
 // The row at a place, with what lies behind it and ahead of it.
-pub fn context<L: Limit>(
+pub(crate) fn context<L: Limit>(
     road: &Road,
     limit: &L,
     rows: &[RowRecord],

@@ -25,7 +25,7 @@ fn count_row(road: &Road, at: &Context) -> usize
     count
 }
 
-pub fn count_findings<L: Limit>(road: &Road, limit: &L, rows: &[RowRecord]) -> usize
+pub(crate) fn count_findings<L: Limit>(road: &Road, limit: &L, rows: &[RowRecord]) -> usize
     requires { length rows.now ≤ 4_000 }
     ensures { result ≡ length (listed road.now (L.Limit.admitted limit.now) 0 nothing (map row_of rows.now)) }
 {

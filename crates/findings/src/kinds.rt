@@ -69,7 +69,7 @@ fn weight_of(rule: Rule) -> Weight
 }
 
 // The finding of a kind at a row.
-pub fn finding_of(place: usize, kind: Kind) -> Finding
+pub(crate) fn finding_of(place: usize, kind: Kind) -> Finding
     ensures { result ≡ finding_of_lem place kind }
 {
     let rule = rule_of(kind);

@@ -25,7 +25,7 @@ fn is_tabled(radius: u32, next: u32) -> bool
 }
 
 // Whether the radius may be followed by the next, over a run of that length.
-pub fn follows_radius(road: &Road, run: u64, radius: u32, next: u32) -> bool
+pub(crate) fn follows_radius(road: &Road, run: u64, radius: u32, next: u32) -> bool
     ensures { result ≡ follows road.now run radius next }
 {
     if run <= limited_length(road.speed) {

@@ -52,7 +52,7 @@ fn report_row(
     Ok(())
 }
 
-pub fn report_rows<L: Limit>(
+pub(crate) fn report_rows<L: Limit>(
     road: &Road,
     limit: &L,
     rows: &[RowRecord],

@@ -122,7 +122,7 @@ fn run_is_short(road: &Road, before: Option<Curve>, run: u64, after: Option<Curv
 }
 
 // Whether a run may begin after what lies behind. Each straight has a length, so there is none where they sum to 0.
-pub fn run_begins(behind: Stretch) -> bool
+pub(crate) fn run_begins(behind: Stretch) -> bool
     ensures { result ≡ begins behind }
 {
     behind.run == 0
@@ -174,7 +174,7 @@ fn straight_breaks(road: &Road, kind: Kind, at: &Context, straight: Straight) ->
 }
 
 // Whether a row breaks the rule of a kind.
-pub fn is_broken(road: &Road, kind: Kind, at: &Context) -> bool
+pub(crate) fn is_broken(road: &Road, kind: Kind, at: &Context) -> bool
     requires { at.now.ahead.run ≤ 80_000_000_000 }
     ensures { result ≡ breaks road.now kind at.now }
 {

@@ -3,7 +3,7 @@ ghost use Rattle.std.specs.Prelude.{◌≡◌, ◌<◌, ◌≤◌, length, slice
 ghost use Rattle.roll.specs.Contents.{with_inserted, with_removed};
 
 // What slot `place` holds.
-pub fn entry_at<T: Copy>(slots: &[T], place: usize) -> T
+pub(crate) fn entry_at<T: Copy>(slots: &[T], place: usize) -> T
     requires { place < length slots.now }
     ensures { result ≡ slice_index_or slots.now place result }
 {
@@ -11,7 +11,7 @@ pub fn entry_at<T: Copy>(slots: &[T], place: usize) -> T
 }
 
 // Puts `value` into slot `place`.
-pub fn put_entry<T: Copy>(slots: &mut [T], place: usize, value: T)
+pub(crate) fn put_entry<T: Copy>(slots: &mut [T], place: usize, value: T)
     requires { place < length slots.old }
     ensures { slots.new ≡ slice_set slots.old place value }
 {
@@ -19,7 +19,7 @@ pub fn put_entry<T: Copy>(slots: &mut [T], place: usize, value: T)
 }
 
 // Moves the entries from `place` on one slot up, and puts `value` into the gap.
-pub fn insert_entry<T: Copy>(slots: &mut [T], count: usize, place: usize, value: T)
+pub(crate) fn insert_entry<T: Copy>(slots: &mut [T], count: usize, place: usize, value: T)
     requires place { place ≤ count }
     requires room { count < length slots.old }
     ensures { slots.new ≡ with_inserted slots.old count place value }
@@ -31,7 +31,7 @@ pub fn insert_entry<T: Copy>(slots: &mut [T], count: usize, place: usize, value:
 }
 
 // Moves the entries after `place` one slot down, and puts `blank` into the freed slot.
-pub fn remove_entry<T: Copy>(slots: &mut [T], count: usize, place: usize, blank: T)
+pub(crate) fn remove_entry<T: Copy>(slots: &mut [T], count: usize, place: usize, blank: T)
     requires place { place < count }
     requires fits { count ≤ length slots.old }
     ensures { slots.new ≡ with_removed slots.old count place blank }
