@@ -1,18 +1,7 @@
 // What a command answers, and how it is shown.
-ghost use Rattle.std.specs.Prelude.{◌≡◌};
-ghost use Rattle.commands.specs.Said.{class_word};
-ghost use Rattle.answers.specs.Shown.{group_number_lem};
-
-use crate::reasons::Refused;
 use label::Label;
-use road::class::Class;
-use road::refusal::Refusal;
 use road::road::Road;
 use std::fmt;
-use superelevation::group::Group;
-
-const NO_ROAD: &str =
-    "word 1 is 'label', and no road is open: begin with road CLASS SPEED B LANES usual|top";
 
 #[derive(Clone, Copy)]
 pub enum Answer {
@@ -22,33 +11,9 @@ pub enum Answer {
         turn: u32,
         label: Label,
     },
-    Refused(Refusal),
-    // the command speaks of the open road, and there is none
-    NoRoad,
 }
 
-// The letter of a class, as a command has it.
-fn letter(class: Class) -> &'static str
-    ensures { result.now ≡ class_word class }
-{
-    match class {
-        Class::A => "A",
-        Class::M => "M",
-        Class::C => "C",
-    }
-}
-
-fn group_number(group: Group) -> u32
-    ensures { result ≡ group_number_lem group }
-{
-    match group {
-        Group::One => 1,
-        Group::Two => 2,
-        Group::Three => 3,
-    }
-}
-
-// A length, or that there is none.
+// A length, or that there is none. A type of its own, since how an `Option` is shown is not ours to say.
 #[derive(Clone, Copy)]
 struct Length(Option<u32>);
 
@@ -62,9 +27,9 @@ impl fmt::Display for Length {
 }
 
 fn write_road<W: fmt::Write>(f: &mut fmt::Formatter<W>, road: &Road) -> fmt::Result {
-    let class = letter(road.class);
+    let class = road.class;
     let speed = road.speed;
-    let group = group_number(road.group);
+    let group = road.group.number();
     let least = road.least_radius;
     write!(
         f,
@@ -103,11 +68,6 @@ impl fmt::Display for Answer {
                 write!(f, "label {radius} {turn} ")?;
                 write_label(f, label)
             }
-            Answer::Refused(refusal) => {
-                let refused = Refused(*refusal);
-                write!(f, "{refused}")
-            }
-            Answer::NoRoad => f.write_str(NO_ROAD),
         }
     }
 }

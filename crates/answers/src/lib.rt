@@ -2,5 +2,4 @@
 #![tactic(auto)]
 
 pub mod answer;
-pub mod mistakes;
-mod reasons;
+pub mod failure;

@@ -1,9 +1,12 @@
 // A limit that is chosen by name at run time: one of the Norma's, or a client's table.
 #![tactic(auto)]
 
+ghost use Rattle.std.specs.Prelude.{◌≡◌};
+ghost use Rattle.limits.specs.declared.place.Place.{Place};
 ghost use Rattle.choice.specs.Chosen.{chosen, chosen_lawful};
 
 use client_table::table::ClientTable;
+use limits::either::Either::{self, One, Other};
 use limits::limit::Limit;
 use limits::place::Place;
 use norma::azimuth::AzimuthLimit;
@@ -23,40 +26,40 @@ pub enum ChosenLimit {
     Table(Vec<u8>),
 }
 
+// One of the Norma's limits, or a client's table.
+type OneLimit<'a> = Either<
+    Either<ComfortLimit, TransitionLimit>,
+    Either<Either<AzimuthLimit, ShiftLimit>, Either<FifthOfTurnLimit, ClientTable<'a>>>,
+>;
+
+impl ChosenLimit {
+    // The limit itself.
+    fn limit(&self) -> OneLimit<'_>
+        ensures { (place : Place) → ⟦<OneLimit<'static> as Limit>⟧.admitted result place ≡ chosen self.now place }
+    {
+        match self {
+            ChosenLimit::Comfort => One(One(ComfortLimit)),
+            ChosenLimit::Transition => One(Other(TransitionLimit)),
+            ChosenLimit::Azimuth => Other(One(One(AzimuthLimit))),
+            ChosenLimit::Shift => Other(One(Other(ShiftLimit))),
+            ChosenLimit::FifthOfTurn => Other(Other(One(FifthOfTurnLimit))),
+            ChosenLimit::Table(bytes) => Other(Other(Other(ClientTable {
+                bytes: bytes.as_slice(),
+            }))),
+        }
+    }
+}
+
 impl Limit for ChosenLimit {
     ghost admitted = { λ limit place. chosen limit place };
 
     ghost lawful = { λ limit place. chosen_lawful limit place };
 
     fn admits(&self, place: &Place, length: u32) -> bool {
-        match self {
-            ChosenLimit::Comfort => ComfortLimit.admits(place, length),
-            ChosenLimit::Transition => TransitionLimit.admits(place, length),
-            ChosenLimit::Azimuth => AzimuthLimit.admits(place, length),
-            ChosenLimit::Shift => ShiftLimit.admits(place, length),
-            ChosenLimit::FifthOfTurn => FifthOfTurnLimit.admits(place, length),
-            ChosenLimit::Table(bytes) => {
-                let table = ClientTable {
-                    bytes: bytes.as_slice(),
-                };
-                table.admits(place, length)
-            }
-        }
+        self.limit().admits(place, length)
     }
 
     fn least_length(&self, place: &Place) -> Option<u32> {
-        match self {
-            ChosenLimit::Comfort => ComfortLimit.least_length(place),
-            ChosenLimit::Transition => TransitionLimit.least_length(place),
-            ChosenLimit::Azimuth => AzimuthLimit.least_length(place),
-            ChosenLimit::Shift => ShiftLimit.least_length(place),
-            ChosenLimit::FifthOfTurn => FifthOfTurnLimit.least_length(place),
-            ChosenLimit::Table(bytes) => {
-                let table = ClientTable {
-                    bytes: bytes.as_slice(),
-                };
-                table.least_length(place)
-            }
-        }
+        self.limit().least_length(place)
     }
 }

@@ -1,2 +1,2 @@
-pub mod Entries
+pub mod Chunks
 pub mod Whole

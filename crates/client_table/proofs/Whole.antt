@@ -2,7 +2,7 @@
 use mathlib.Core.Bool.{Bool, true, false, cond}
 use mathlib.Core.List.{List}
 use mathlib.Core.Logic.{inl, inr}
-use mathlib.Core.Path.{◌≡◌, refl, subst, sym}
+use mathlib.Core.Path.{◌≡◌, subst, sym}
 use Prim.Native.Nat.{ℕ, zero, suc, ◌+◌, ◌*◌, ◌/◌, ◌≤◌, ◌<◌}
 use native.Mathlib.Nat.{eq-or-lt_of_le, le_of_suc-le-suc}
 use native.Mathlib.Omega.{arith}
@@ -10,14 +10,12 @@ use lib.Dec.{T, leb, leb→le, le→leb}
 use lib.ListN.{length as count}
 use Rattle.limits.specs.declared.place.Place.{Place}
 use Rattle.limits.specs.Lawful.{and, and_parts}
+use Rattle.limits.specs.Admission.{In}
+use Rattle.limits.specs.Least.{Smallest, LeastOf}
+use Rattle.std.proofs.Common.{Some, None}
+use Rattle.std.proofs.lemmas.Bool.{cases_lt, le-leb, lt-leb}
 use Rattle.client_table.specs.declared.entry.Entry.{Entry}
 use Rattle.client_table.specs.Tables.{allows, Allows, entry_at_lem, each_allows, table, ByEntries}
-
-same : (a b : Bool) → (T a → T b) → (T b → T a) → a ≡ b
-same true true there back = refl
-same true false there back = absurd (there tt)
-same false true there back = absurd (back tt)
-same false false there back = refl
 
 fact : (a b : Bool) (least length : ℕ) → T (cond a (cond b (leb least length) true) true) → T a → T b → least ≤ length
 fact true true least length t here there = leb→le least length t
@@ -66,14 +64,19 @@ module _ (bytes : List ℕ) (place : Place) (length : ℕ) where
       and (leb length 2_000_000) (each_allows bytes (count bytes / 12) place.radius length) (le→leb length 2_000_000 top)
       (→each bytes (count bytes / 12) place.radius length (λ k below. all k (omega arith)))
 
-  pub is_table : (answer : Bool) → ByEntries bytes place length answer → answer ≡ table bytes place length
-  is_table answer by =
-      same answer (table bytes place length) (λ t. →admitted (by.capped t) (by.holds t))
-      (λ t. by.suffices (admitted→ t).0 (admitted→ t).1)
+  pub by_table : (answer : Bool) → answer ≡ table bytes place length → ByEntries bytes place length answer
+  by_table answer is = subst (ByEntries bytes place length) (sym is) (record {
+    capped = λ t. (admitted→ t).0;
+    holds = λ t. (admitted→ t).1;
+    suffices = →admitted;
+  })
 
--- what an entry that was read says of the one that stands in the bytes
-pub allowed_by : (read stored : Entry) (radius length : ℕ) → read ≡ stored → true ≡ allows read radius length → Allows stored radius length
-allowed_by read stored radius length is yes_so = rw is at (allows→ read radius length (subst T yes_so tt))
-
-pub refused_by : (read stored : Entry) (radius length : ℕ) → read ≡ stored → false ≡ allows read radius length → Allows stored radius length → ⊥
-refused_by read stored radius length is no_so allowed = subst T (sym no_so) (→allows read radius length (rw is allowed))
+-- the largest that the entries want, where it is not above the longest
+pub least_of : (bytes : List ℕ) (place : Place) (wanted : ℕ) → Smallest (λ length. (index : ℕ) → 12 * index + 12 ≤ count bytes → Allows (entry_at_lem bytes index) place.radius length) wanted → LeastOf (In (table bytes place)) (cond (leb wanted 2_000_000) (Some wanted) None)
+least_of bytes place wanted all = elim (cases_lt 2_000_000 wanted) [
+  | inl above ↦ rw (lt-leb wanted 2_000_000 above) (λ length t. omega (arith, (admitted→ bytes place length t).0, all.least length (admitted→ bytes place length t).1))
+  | inr within ↦ rw (le-leb wanted 2_000_000 within) (record {
+    admitted = →admitted bytes place wanted within all.admitted;
+    least = λ other t. all.least other (admitted→ bytes place other t).1;
+  })
+]

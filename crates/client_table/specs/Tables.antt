@@ -24,6 +24,10 @@ allows entry radius length =
 abbrev pub Allows : Entry → (radius length : ℕ) → Type 0
 Allows entry radius length = entry.first_radius ≤ radius → radius ≤ entry.last_radius → entry.least_length ≤ length
 
+-- The least length that the entry lets a curve of that radius have.
+abbrev pub wanted : Entry → (radius : ℕ) → ℕ
+wanted entry radius = cond (leb entry.first_radius radius) (cond (leb radius entry.last_radius) entry.least_length 0) 0
+
 -- Each of the first n entries allows the length.
 unfoldable pub each_allows : List ℕ → ℕ → (radius length : ℕ) → Bool
 each_allows bytes zero radius length = true

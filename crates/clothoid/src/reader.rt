@@ -17,7 +17,7 @@ fn answer_chunk<W: Write>(
     out: &mut W,
     chunk: &[u8],
 ) -> anyhow::Result<()>
-    ensures { OnOk result (Carried pending.old.too_long pending.old.bytes.items chunk.now pending.new.too_long pending.new.bytes.items) }
+    ensures { OnOk result (Carried pending.old chunk.now pending.new) }
 {
     let mut rest = chunk;
     while let Some((line, next)) = split_line(rest) {
@@ -37,6 +37,7 @@ pub(crate) fn answer_all<R: Read + Drop>(rt: &HostRuntime, mut reader: R) -> any
     let mut session = Session::new();
     let mut pending = Pending::new(heap);
     let mut buffer = vec![in heap; 0u8; CHUNK]?;
+    // Counted, since a loop whose end is not shown would need the right to wait.
     for _ in 0..u64::MAX {
         let count = match reader.read(buffer.as_mut_slice()) {
             Ok(0) => break,

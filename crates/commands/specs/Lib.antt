@@ -1,1 +1,4 @@
 pub mod Said
+pub mod Names
+pub mod OfKind
+pub mod Shown

@@ -3,8 +3,7 @@ use Rattle.std.specs.Prelude.{◌≡◌, ℕ, ◌+◌, ◌-◌, ◌^◌, ◌<◌
 use Rattle.std.specs.Borrow.{Bor}
 use Rattle.std.specs.Result as results
 use Rattle.std.specs.Str.Parse.{IsNumeral, digits_value}
-use Rattle.road.specs.declared.class.Class.{Class}
-use Rattle.road.specs.declared.class.Class.TheVariants.{A, M, C}
+use Rattle.road.specs.Words.{class_word}
 use Rattle.road.specs.declared.jerk.JerkChoice.{JerkChoice}
 use Rattle.road.specs.declared.jerk.JerkChoice.TheVariants.{Usual, Top}
 use Rattle.commands.specs.declared.command.Command.{Command}
@@ -23,20 +22,16 @@ word ws i = (slice_index_or ws i none).now
 abbrev pub Spells : List ℕ → ℕ → Type 0
 Spells w n = IsNumeral 10 w × (n ≡ min (digits_value 10 w) (2 ^ 32 - 1))
 
-abbrev pub class_word : Class → List ℕ
-class_word A = codes "A"
-class_word M = codes "M"
-class_word C = codes "C"
-
 abbrev pub choice_word : JerkChoice → List ℕ
 choice_word Usual = codes "usual"
 choice_word Top = codes "top"
 
 -- the words ws say the command
 abbrev pub Says : List (Bor (List ℕ)) → Command → Type 0
-Says ws (Road class speed edge lanes choice) =
-    (length ws ≡ 6) × (word ws 0 ≡ codes "road") × (word ws 1 ≡ class_word class) ×
-    Spells (word ws 2) speed × Spells (word ws 3) edge × Spells (word ws 4) lanes × (word ws 5 ≡ choice_word choice)
+Says ws (Road design) =
+    (length ws ≡ 6) × (word ws 0 ≡ codes "road") × (word ws 1 ≡ class_word design.class) ×
+    Spells (word ws 2) design.speed × Spells (word ws 3) design.edge × Spells (word ws 4) design.lanes ×
+    (word ws 5 ≡ choice_word design.choice)
 Says ws (Label radius turn) =
     (length ws ≡ 3) × (word ws 0 ≡ codes "label") × Spells (word ws 1) radius × Spells (word ws 2) turn
 

@@ -1,20 +1,10 @@
 // What a line can say.
-use road::class::Class;
-use road::jerk::JerkChoice;
+use road::design::RoadDesign;
 
-#[derive(Clone, Copy)]
+#[derive(Clone, Copy, PartialEq, Eq, Debug)]
 pub enum Command {
     // opens a road, in place of the one before
-    Road {
-        class: Class,
-        // km/h
-        speed: u32,
-        // from the axis of rotation to the pavement's edge, mm
-        edge: u32,
-        // lanes turning
-        lanes: u32,
-        choice: JerkChoice,
-    },
+    Road(RoadDesign),
     // asks for the label of a curve on the open road
     Label {
         // mm

@@ -3,4 +3,5 @@
 
 pub mod command;
 pub mod mistake;
+mod operand;
 pub mod parse;

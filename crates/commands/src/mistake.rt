@@ -1,7 +1,13 @@
-// Why a line is no command.
+// Why a line is no command, and how that is shown.
+ghost use Rattle.std.specs.Prelude.{Some};
+ghost use Rattle.std.specs.Fmt.{WritesOnOk};
+ghost use Rattle.commands.specs.Shown.{expected_text, mistake_text, shown_char, shown_word};
+
+use std::error::Error;
+use std::fmt;
 
 // What should have stood where the wrong word stands.
-#[derive(Clone, Copy)]
+#[derive(Clone, Copy, PartialEq, Eq, Debug)]
 pub enum Expected {
     Command,
     Class,
@@ -10,10 +16,70 @@ pub enum Expected {
     EndOfLine,
 }
 
+impl fmt::Display for Expected {
+    ghost output = { λ expected. Some (expected_text expected) };
+
+    fn fmt<W: fmt::Write>(&self, f: &mut fmt::Formatter<W>) -> fmt::Result {
+        f.write_str(match self {
+            Expected::Command => "a command: road or label",
+            Expected::Class => "a class: A, M or C",
+            Expected::Number => "a number: digits only",
+            Expected::JerkChoice => "usual or top",
+            Expected::EndOfLine => "the end of the line",
+        })
+    }
+}
+
 // The word at place `at`, counted from 1, is not what was expected; `None` where the line ends too early.
-#[derive(Clone, Copy)]
+#[derive(Clone, Copy, PartialEq, Eq, Debug)]
 pub struct ParseError<'a> {
     pub at: usize,
     pub word: Option<&'a str>,
     pub expected: Expected,
+}
+
+impl fmt::Display for ParseError<'_> {
+    ghost output = { λ e. Some (mistake_text e.at e.word e.expected) };
+
+    fn fmt<W: fmt::Write>(&self, f: &mut fmt::Formatter<W>) -> fmt::Result {
+        let at = self.at;
+        let expected = self.expected;
+        let Some(word) = self.word else {
+            return write!(f, "word {at} is missing, expected {expected}");
+        };
+        write!(f, "word {at} is '")?;
+        write_short(f, word)?;
+        write!(f, "', expected {expected}")
+    }
+}
+
+impl Error for ParseError<'_> {}
+
+// Shows a character; a control character as an escape.
+fn write_shown<W: fmt::Write>(f: &mut fmt::Formatter<W>, c: char) -> fmt::Result
+    ensures { WritesOnOk W.write_str_gives f.old result (shown_char c) f.new }
+{
+    if c.is_control() {
+        for e in c.escape_default() {
+            f.write_char(e)?;
+        }
+        return Ok(());
+    }
+    f.write_char(c)
+}
+
+// The most characters of a word that a message shows.
+const MOST_SHOWN: usize = 40;
+
+// Shows a word, or the front of a long one.
+fn write_short<W: fmt::Write>(f: &mut fmt::Formatter<W>, word: &str) -> fmt::Result
+    ensures { WritesOnOk W.write_str_gives f.old result (shown_word word.now) f.new }
+{
+    for c in word.chars().take(MOST_SHOWN) {
+        write_shown(f, c)?;
+    }
+    if word.chars().count() > MOST_SHOWN {
+        f.write_str("..")?;
+    }
+    Ok(())
 }

@@ -1,147 +1,108 @@
 // A line's words, read as a command.
-ghost use Rattle.std.specs.Prelude.{◌≡◌, ℕ, ◌<◌, ◌≤◌, List, length, codes, Decides, MatchResult, slice_index};
+ghost use Rattle.std.specs.Prelude.{◌≡◌, ℕ, ◌+◌, ◌<◌, ◌≤◌, List, length, codes, MatchResult, OnOk};
 ghost use Rattle.std.specs.Borrow.{Bor};
-ghost use Rattle.std.specs.Str.Parse.{IsNumeral};
 ghost use Rattle.text.specs.Words.{Words};
-ghost use Rattle.commands.specs.Said.{word, Spells, class_word, choice_word, AClass, AChoice, Blames, Got, ReadAs, RoadForm, LabelForm, Parsed, Answers};
+ghost use Rattle.commands.specs.Said.{word, Blames, Got, ReadAs, RoadForm, LabelForm, Parsed, Answers};
 
 use crate::command::Command;
 use crate::mistake::{Expected, ParseError};
-use road::class::Class;
-use road::jerk::JerkChoice;
-use text::number::number;
+use crate::operand::{Name, Operand};
+use road::design::RoadDesign;
 use text::words::words_of;
 
 // More words than any command has.
 const MOST_WORDS: usize = 8;
 
-// The word at a place is not what was expected.
-fn wrong<'a>(words: &[&'a str], at: usize, expected: Expected) -> ParseError<'a>
-    requires { (at < length words.now) × (at < 100) }
-    ensures { Blames words.now result }
-{
-    ParseError {
-        at: at + 1,
-        word: Some(words[at]),
-        expected,
-    }
+// The words of a line, and the place of the one that is read next.
+#[derive(Drop)]
+struct Cursor<'w, 'a> {
+    words: &'w [&'a str],
+    at: usize,
+    ghost within: { at ≤ length words.now },
 }
 
-// The word at a place, if the line has as many.
-fn word_at<'a>(words: &[&'a str], at: usize, expected: Expected) -> Result<&'a str, ParseError<'a>>
-    requires { (at ≤ length words.now) × (at < 100) }
-    ensures { MatchResult result (λ x. (at < length words.now) × (word words.now at ≡ x.now)) (λ e. Blames words.now e × (length words.now ≡ at)) }
-{
-    if at >= words.len() {
-        return Err(ParseError {
-            at: at + 1,
-            word: None,
+impl<'a> Cursor<'_, 'a> {
+    // The word at the place, or the line's end, is not what was expected.
+    fn wrong(&self, expected: Expected) -> ParseError<'a>
+        ensures { Blames self.now.words.now result }
+    {
+        ParseError {
+            at: self.at + 1,
+            word: self.words.get(self.at).copied(),
             expected,
-        });
+        }
     }
-    Ok(words[at])
-}
 
-// That the line ends before a place.
-fn ends<'a>(words: &[&'a str], at: usize) -> Result<(), ParseError<'a>>
-    requires { (at ≤ length words.now) × (at < 100) }
-    ensures { MatchResult result (λ _. length words.now ≡ at) (λ e. Blames words.now e × (at < length words.now)) }
-{
-    if at < words.len() {
-        return Err(wrong(words, at, Expected::EndOfLine));
+    // Reads the word at the place.
+    fn operand<T: Operand>(&mut self) -> Result<T, ParseError<'a>>
+        ensures read { Got self.old.words.now self.old.at (T.kind) (T.says) result }
+        ensures next { OnOk result ((self.new.words ≡ self.old.words) × (self.new.at ≡ self.old.at + 1)) }
+    {
+        let value = self
+            .words
+            .get(self.at)
+            .and_then(|word| T::read(word))
+            .ok_or_else(|| self.wrong(T::EXPECTED))?;
+        self.at += 1;
+        Ok(value)
     }
-    Ok(())
-}
 
-fn number_at<'a>(words: &[&'a str], at: usize) -> Result<u32, ParseError<'a>>
-    requires { (at ≤ length words.now) × (at < 100) }
-    ensures { Got words.now at (IsNumeral 10) (Spells) result }
-{
-    let word = word_at(words, at, Expected::Number)?;
-    match number(word) {
-        Some(n) => Ok(n),
-        None => Err(wrong(words, at, Expected::Number)),
+    // That the line ends at the place.
+    fn end(&self) -> Result<(), ParseError<'a>>
+        ensures { MatchResult result (λ _. length self.now.words.now ≡ self.now.at) (λ e. Blames self.now.words.now e × (self.now.at < length self.now.words.now)) }
+    {
+        if self.at < self.words.len() {
+            return Err(self.wrong(Expected::EndOfLine));
+        }
+        Ok(())
     }
-}
 
-fn class_at<'a>(words: &[&'a str], at: usize) -> Result<Class, ParseError<'a>>
-    requires { (at ≤ length words.now) × (at < 100) }
-    ensures { Got words.now at (AClass) (λ w x. w ≡ class_word x) result }
-{
-    match word_at(words, at, Expected::Class)? {
-        "A" => Ok(Class::A),
-        "M" => Ok(Class::M),
-        "C" => Ok(Class::C),
-        _ => Err(wrong(words, at, Expected::Class)),
+    fn road(&mut self) -> Result<Command, ParseError<'a>>
+        requires { (self.old.at ≡ 1) × (word self.old.words.now 0 ≡ codes "road") }
+        ensures { ReadAs (RoadForm) self.old.words.now result }
+    {
+        let design = RoadDesign {
+            class: self.operand()?,
+            speed: self.operand()?,
+            edge: self.operand()?,
+            lanes: self.operand()?,
+            choice: self.operand()?,
+        };
+        self.end()?;
+        Ok(Command::Road(design))
     }
-}
 
-fn choice_at<'a>(words: &[&'a str], at: usize) -> Result<JerkChoice, ParseError<'a>>
-    requires { (at ≤ length words.now) × (at < 100) }
-    ensures { Got words.now at (AChoice) (λ w x. w ≡ choice_word x) result }
-{
-    match word_at(words, at, Expected::JerkChoice)? {
-        "usual" => Ok(JerkChoice::Usual),
-        "top" => Ok(JerkChoice::Top),
-        _ => Err(wrong(words, at, Expected::JerkChoice)),
+    fn label(&mut self) -> Result<Command, ParseError<'a>>
+        requires { (self.old.at ≡ 1) × (word self.old.words.now 0 ≡ codes "label") }
+        ensures { ReadAs (LabelForm) self.old.words.now result }
+    {
+        let radius = self.operand()?;
+        let turn = self.operand()?;
+        self.end()?;
+        Ok(Command::Label { radius, turn })
     }
-}
-
-fn road<'a>(words: &[&'a str]) -> Result<Command, ParseError<'a>>
-    requires { (1 ≤ length words.now) × (word words.now 0 ≡ codes "road") }
-    ensures { ReadAs (RoadForm) words.now result }
-{
-    let class = class_at(words, 1)?;
-    let speed = number_at(words, 2)?;
-    let edge = number_at(words, 3)?;
-    let lanes = number_at(words, 4)?;
-    let choice = choice_at(words, 5)?;
-    ends(words, 6)?;
-    Ok(Command::Road {
-        class,
-        speed,
-        edge,
-        lanes,
-        choice,
-    })
-}
-
-fn label<'a>(words: &[&'a str]) -> Result<Command, ParseError<'a>>
-    requires { (1 ≤ length words.now) × (word words.now 0 ≡ codes "label") }
-    ensures { ReadAs (LabelForm) words.now result }
-{
-    let radius = number_at(words, 1)?;
-    let turn = number_at(words, 2)?;
-    ends(words, 3)?;
-    Ok(Command::Label { radius, turn })
 }
 
 // The command that the words say.
 fn command<'a>(words: &[&'a str]) -> Result<Command, ParseError<'a>>
     ensures { Parsed words.now result }
 {
-    match word_at(words, 0, Expected::Command)? {
-        "road" => road(words),
-        "label" => label(words),
-        _ => Err(wrong(words, 0, Expected::Command)),
+    let mut cursor = Cursor { words, at: 0 };
+    match cursor.operand()? {
+        Name::Road => cursor.road(),
+        Name::Label => cursor.label(),
     }
-}
-
-// Whether the word begins a comment.
-fn is_comment(word: &str) -> bool
-    ensures { Decides result (slice_index word.now 0 ≡ 35) }
-{
-    word.starts_with('#')
 }
 
 // What the words of a line answer: nothing if there are none or the first begins a comment.
 fn answer<'a>(words: &[&'a str]) -> Result<Option<Command>, ParseError<'a>>
     ensures { Answers words.now result }
 {
-    if words.is_empty() || is_comment(words[0]) {
-        return Ok(None);
+    match words {
+        [] => Ok(None),
+        [first, ..] if first.starts_with('#') => Ok(None),
+        _ => command(words).map(Some),
     }
-    Ok(Some(command(words)?))
 }
 
 // The command that the line says; `None` for a blank line and for one whose first word begins with '#'.
@@ -150,5 +111,5 @@ pub fn parse_line(line: &str) -> Result<Option<Command>, ParseError<'_>>
 {
     let mut words = [""; MOST_WORDS];
     let count = words_of(line, &mut words);
-    answer(&words[0..count])
+    answer(&words[..count])
 }

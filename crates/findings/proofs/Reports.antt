@@ -1,25 +1,12 @@
 -- Findings put one after another.
-use Rattle.std.proofs.Common.{◌≡◌, ℕ, ◌+◌, ◌-◌, ◌<◌, ◌≤◌, Bool, true, false, List, [], ◌∷◌, ◌++◌, length, drop, is_err, Ok, Err, Result, sym, refl, ap, ◌∙◌, arith}
+use Rattle.std.proofs.Common.{◌≡◌, ℕ, ◌+◌, ◌-◌, ◌<◌, ◌≤◌, true, List, [], ◌++◌, length, drop, is_ok, is_err, Ok, Err, Result, sym, refl, ap, ◌∙◌, arith}
 use Rattle.std.proofs.lemmas.List.{length-append, drop-drop, append_assoc, append-nil}
 use Rattle.std.proofs.lemmas.Bool.{false≢true}
-use Rattle.roll.specs.Edits.{memory, number, entries_of, Pushed}
+use Rattle.roll.specs.Edits.{memory, number, entries_of}
 use Rattle.roll.specs.declared.RollRefusal.{RollRefusal}
-use Rattle.roll.specs.declared.RollRefusal.TheVariants.{NoSuchPlace, Full}
 use Rattle.roll.specs.declared.Roll.{Roll}
 use Rattle.findings.specs.declared.finding.Finding.{Finding}
 use Rattle.findings.specs.Reports.{Put, Reported}
-use Rattle.findings.specs.Walk.{given}
-
-pushed : (before after : Roll Finding) (f : Finding) (r : Result (Unit {0}) RollRefusal) → Pushed before after f r → Reported before after (f ∷ []) r
-pushed before after f (Ok u) (lt, num, front, spare, same) =
-    record { more = num; front = front; rest = spare ∙ ap (λ (n : ℕ). drop n (memory before)) (sym num); as_long = same }
-pushed before after f (Err NoSuchPlace) h = absurd h
-pushed before after f (Err Full) h = let e = h.0 in omega arith
-
-pub kind_put : (before after : Roll Finding) (b : Bool) (f g : Finding) (r : Result (Unit {0}) RollRefusal) → b ≡ true → g ≡ f
-    → Pushed before after g r → Reported before after (given b f) r
-kind_put before after true f g r e q h = rw (sym q) (pushed before after g r h)
-kind_put before after false f g r e q h = absurd (false≢true e)
 
 drop_later : {X : Type 0} (m n : ℕ) (xs ys : List X) → m ≤ n → drop m xs ≡ drop m ys → drop n xs ≡ drop n ys
 drop_later m n xs ys le same =
@@ -77,3 +64,13 @@ pub refused_put : (before after : Roll Finding) (fs : List Finding) (r : Result 
     → length (memory before) < number before + length fs → Reported before after fs r
 refused_put before after fs (Ok u) e h = absurd (false≢true e)
 refused_put before after fs (Err d) e h = h
+
+-- what a report says, by how it ended
+pub put_if_ok : (before after : Roll Finding) (fs : List Finding) (r : Result (Unit {0}) RollRefusal) → is_ok r ≡ true → Reported before after fs r → Put before after fs
+put_if_ok before after fs (Ok u) e h = h
+put_if_ok before after fs (Err d) e h = absurd (false≢true e)
+
+pub no_room_if_err : (before after : Roll Finding) (fs : List Finding) (r : Result (Unit {0}) RollRefusal) → is_err r ≡ true → Reported before after fs r
+    → length (memory before) < number before + length fs
+no_room_if_err before after fs (Ok u) e h = absurd (false≢true e)
+no_room_if_err before after fs (Err d) e h = h

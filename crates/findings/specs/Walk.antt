@@ -1,5 +1,6 @@
 -- The findings, computed row by row. Only private contracts cite this; proofs/ tie it to the rules.
 use Rattle.std.specs.Prelude.{ℕ, ◌+◌, ◌-◌, ◌*◌, Bool, true, false, cond, not, ◌&&◌, List, [], ◌∷◌, ◌++◌, Some, None, Option, ◌==◌, nat_le, nat_lt}
+use Rattle.std.specs.List.{count_by}
 use Rattle.superelevation.specs.declared.group.Group.{Group}
 use Rattle.superelevation.specs.declared.group.Group.TheVariants.{One, Two, Three}
 use Rattle.road.specs.declared.class.Class.{Class}
@@ -202,11 +203,18 @@ gathered road place at (k ∷ ks) = given (breaks road k at) (finding_of_lem pla
 
 -- How many those are.
 abbrev pub counted : Road → Context → List Kind → ℕ
-counted road at [] = 0
-counted road at (k ∷ ks) = cond (breaks road k at) 1 0 + counted road at ks
+counted road at ks = count_by (λ k. breaks road k at) ks
+
+-- The rows in order, each in its context, after what lies behind them.
+abbrev pub contexts : Road → Admission → Stretch → List Row → List Context
+contexts road admission behind [] = []
+contexts road admission behind (r ∷ rows) = context_of road admission behind r rows ∷ contexts road admission (past behind r) rows
+
+-- The findings of those rows, the first of them at a place.
+abbrev pub gathered_from : Road → ℕ → List Context → List Finding
+gathered_from road place [] = []
+gathered_from road place (at ∷ ats) = gathered road place at kinds ++ gathered_from road (place + 1) ats
 
 -- The findings of the rows from a place on, after what lies behind it.
 abbrev pub listed : Road → Admission → ℕ → Stretch → List Row → List Finding
-listed road admission place behind [] = []
-listed road admission place behind (r ∷ rows) =
-    gathered road place (context_of road admission behind r rows) kinds ++ listed road admission (place + 1) (past behind r) rows
+listed road admission place behind rows = gathered_from road place (contexts road admission behind rows)

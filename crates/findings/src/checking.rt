@@ -1,20 +1,15 @@
 // The check of a sheet.
-ghost use Rattle.std.specs.Prelude.{◌≡◌, ◌≤◌, map, length, nat_le};
+ghost use Rattle.std.specs.Prelude.{map};
 ghost use Rattle.rows.specs.Reading.{row_of};
 ghost use Rattle.findings.specs.Findings.{OneList, Checked};
-ghost use Rattle.findings.specs.Walk.{nothing, listed};
 
-use crate::counting::count_findings;
+use crate::alignment::Alignment;
 use crate::finding::Finding;
-use crate::kinds::KINDS;
-use crate::reporting::report_rows;
 use limits::limit::Limit;
 use road::road::Road;
 use roll::Roll;
+use rows::range::MOST_ROWS;
 use rows::record::RowRecord;
-
-// The most rows that a sheet has.
-const MOST_ROWS: usize = 4_000;
 
 // Why a check is refused.
 #[derive(Clone, Copy, PartialEq, Eq, Debug)]
@@ -23,14 +18,6 @@ pub enum TooMany {
     Rows,
     // more findings than the memory has slots
     Findings,
-}
-
-// Whether the findings fit so many slots. A row has one finding of each kind at most: where so many fit, they are not counted.
-fn has_room<L: Limit>(road: &Road, limit: &L, rows: &[RowRecord], slots: usize) -> bool
-    requires { length rows.now ≤ 4_000 }
-    ensures { result ≡ nat_le (length (listed road.now (L.Limit.admitted limit.now) 0 nothing (map row_of rows.now))) slots }
-{
-    KINDS.len() * rows.len() <= slots || count_findings(road, limit, rows) <= slots
 }
 
 // Writes the findings of the sheet at the front of the memory, in the order of row, rule and side, and tells how many
@@ -47,13 +34,14 @@ pub fn check<L: Limit>(
     if rows.len() > MOST_ROWS {
         return Err(TooMany::Rows);
     }
-    if !has_room(road, limit, rows, memory.len()) {
+    let alignment = Alignment { road, limit, rows };
+    if !alignment.has_room(memory.len()) {
         return Err(TooMany::Findings);
     }
     let mut findings = Roll::empty(memory);
-    match report_rows(road, limit, rows, &mut findings) {
-        Ok(()) => Ok(findings.len()),
-        // They fit, so this does not come.
-        Err(_) => Err(TooMany::Findings),
-    }
+    // They fit, so the roll refuses none.
+    alignment
+        .report(&mut findings)
+        .map_err(|_| TooMany::Findings)?;
+    Ok(findings.len())
 }

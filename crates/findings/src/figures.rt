@@ -10,10 +10,8 @@ use superelevation::group::Group;
 pub fn limited_length(speed: u32) -> u64
     ensures { result ≡ limited_length_lem speed }
 {
-    if speed >= 100 {
-        return 400_000;
-    }
     match speed {
+        100.. => 400_000,
         90 => 300_000,
         80 => 230_000,
         70 => 175_000,
@@ -39,9 +37,10 @@ pub fn shortest_run(road: &Road, one: Sense, other: Sense) -> u64
     ensures { result ≡ shortest_run_lem one other road.now.speed }
 {
     let speed = road.speed as u64;
-    match (one, other) {
-        (Sense::Left, Sense::Left) | (Sense::Right, Sense::Right) => 2_780 * speed,
-        (Sense::Left, Sense::Right) | (Sense::Right, Sense::Left) => 1_390 * speed,
+    if one == other {
+        2_780 * speed
+    } else {
+        1_390 * speed
     }
 }
 

@@ -5,7 +5,7 @@ ghost use Rattle.findings.specs.Findings.{weight_of_lem, rule_of_lem, side_of, f
 use crate::finding::{Finding, Rule, Side, Weight};
 use crate::kind::Kind;
 
-pub const KINDS: [Kind; 16] = [
+pub(crate) const KINDS: [Kind; 16] = [
     Kind::UnadmittedEntry,
     Kind::UnadmittedExit,
     Kind::LongEntry,
@@ -24,59 +24,63 @@ pub const KINDS: [Kind; 16] = [
     Kind::SlightTurn,
 ];
 
-fn rule_of(kind: Kind) -> Rule
-    ensures { result ≡ rule_of_lem kind }
-{
-    match kind {
-        Kind::UnadmittedEntry | Kind::UnadmittedExit => Rule::AdmittedLength,
-        Kind::LongEntry | Kind::LongExit => Rule::LongestLength,
-        Kind::UncalledEntry | Kind::UncalledExit => Rule::NoClothoids,
-        Kind::Unequal => Rule::Symmetry,
-        Kind::Disharmony => Rule::Harmony,
-        Kind::NoArc => Rule::ArcLeft,
-        Kind::TightRadius => Rule::LeastRadius,
-        Kind::NextRadius | Kind::ReturnRadius => Rule::ConsecutiveRadii,
-        Kind::SmallTurn => Rule::SmallTurn,
-        Kind::ShortRun => Rule::ShortestRun,
-        Kind::LongRun => Rule::LongestRun,
-        Kind::SlightTurn => Rule::LeastTurn,
-    }
-}
-
-fn side_of(kind: Kind) -> Side
-    ensures { result ≡ side_of kind }
-{
-    match kind {
-        Kind::UnadmittedEntry
-        | Kind::LongEntry
-        | Kind::UncalledEntry
-        | Kind::Disharmony
-        | Kind::NextRadius => Side::Entry,
-        Kind::UnadmittedExit | Kind::LongExit | Kind::UncalledExit | Kind::ReturnRadius => {
-            Side::Exit
+impl Kind {
+    fn rule(self) -> Rule
+        ensures { result ≡ rule_of_lem self }
+    {
+        match self {
+            Kind::UnadmittedEntry | Kind::UnadmittedExit => Rule::AdmittedLength,
+            Kind::LongEntry | Kind::LongExit => Rule::LongestLength,
+            Kind::UncalledEntry | Kind::UncalledExit => Rule::NoClothoids,
+            Kind::Unequal => Rule::Symmetry,
+            Kind::Disharmony => Rule::Harmony,
+            Kind::NoArc => Rule::ArcLeft,
+            Kind::TightRadius => Rule::LeastRadius,
+            Kind::NextRadius | Kind::ReturnRadius => Rule::ConsecutiveRadii,
+            Kind::SmallTurn => Rule::SmallTurn,
+            Kind::ShortRun => Rule::ShortestRun,
+            Kind::LongRun => Rule::LongestRun,
+            Kind::SlightTurn => Rule::LeastTurn,
         }
-        _ => Side::Whole,
+    }
+
+    fn side(self) -> Side
+        ensures { result ≡ side_of self }
+    {
+        match self {
+            Kind::UnadmittedEntry
+            | Kind::LongEntry
+            | Kind::UncalledEntry
+            | Kind::Disharmony
+            | Kind::NextRadius => Side::Entry,
+            Kind::UnadmittedExit | Kind::LongExit | Kind::UncalledExit | Kind::ReturnRadius => {
+                Side::Exit
+            }
+            _ => Side::Whole,
+        }
+    }
+
+    // The finding of the kind at a row.
+    pub(crate) fn finding(self, place: usize) -> Finding
+        ensures { result ≡ finding_of_lem place self }
+    {
+        let rule = self.rule();
+        Finding {
+            row: place,
+            rule,
+            side: self.side(),
+            weight: rule.weight(),
+        }
     }
 }
 
-fn weight_of(rule: Rule) -> Weight
-    ensures { result ≡ weight_of_lem rule }
-{
-    match rule {
-        Rule::ShortestRun | Rule::LongestRun | Rule::LeastTurn => Weight::Advice,
-        _ => Weight::Breach,
-    }
-}
-
-// The finding of a kind at a row.
-pub(crate) fn finding_of(place: usize, kind: Kind) -> Finding
-    ensures { result ≡ finding_of_lem place kind }
-{
-    let rule = rule_of(kind);
-    Finding {
-        row: place,
-        rule,
-        side: side_of(kind),
-        weight: weight_of(rule),
+impl Rule {
+    fn weight(self) -> Weight
+        ensures { result ≡ weight_of_lem self }
+    {
+        match self {
+            Rule::ShortestRun | Rule::LongestRun | Rule::LeastTurn => Weight::Advice,
+            _ => Weight::Breach,
+        }
     }
 }

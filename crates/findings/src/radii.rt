@@ -5,7 +5,7 @@ ghost use Rattle.findings.specs.Walk.{tabled, follows};
 use crate::figures::{limited_length, radius_after_run};
 use road::road::Road;
 
-// Table 4.7; it says nothing of radii below 50 m.
+// Table 4.7; it says nothing of radii below 50 m. The crate `radii` turns it into ranges, by divisions that a test does without.
 fn is_tabled(radius: u32, next: u32) -> bool
     ensures { result ≡ tabled radius next }
 {

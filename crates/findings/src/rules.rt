@@ -1,5 +1,5 @@
 // The tests of the rules.
-ghost use Rattle.std.specs.Prelude.{◌≡◌, ◌≤◌, nat_lt};
+ghost use Rattle.std.specs.Prelude.{◌≡◌, nat_lt};
 ghost use Rattle.findings.specs.Rules.{longest_run_lem};
 ghost use Rattle.findings.specs.Walk.{unadmitted, is_too_long, uncalled_for, unequal, harmonious, discordant, disharmonious, arcless, strays, conventional, cramped, short_between, begins, curve_breaks_lem, straight_breaks_lem, breaks};
 
@@ -47,10 +47,7 @@ fn is_uncalled_for(clothoids: Clothoids, length: u32) -> bool
 fn is_unequal(road: &Road, curve: Curve) -> bool
     ensures { result ≡ unequal road.now curve }
 {
-    match road.group {
-        Group::One | Group::Two => curve.entry != curve.exit,
-        Group::Three => false,
-    }
+    road.group != Group::Three && curve.entry != curve.exit
 }
 
 fn are_harmonious(exit: u32, entry: u32) -> bool
@@ -64,10 +61,8 @@ fn are_harmonious(exit: u32, entry: u32) -> bool
 fn is_discordant(road: &Road, before: Option<Curve>, curve: Curve) -> bool
     ensures { result ≡ discordant road.now before curve }
 {
-    match before {
-        Some(one) => one.calls_for_clothoids(road) && !are_harmonious(one.exit, curve.entry),
-        None => false,
-    }
+    before.is_some_and(|one| one.calls_for_clothoids(road)
+        && !are_harmonious(one.exit, curve.entry))
 }
 
 // Rule 5, against the curve just before.
@@ -76,7 +71,7 @@ fn lacks_harmony(road: &Road, clothoids: Clothoids, behind: Stretch, curve: Curv
 {
     match clothoids {
         Clothoids::Uncalled => false,
-        Clothoids::Called(_) => run_begins(behind) && is_discordant(road, behind.curve, curve),
+        Clothoids::Called(_) => behind.begins_run() && is_discordant(road, behind.curve, curve),
     }
 }
 
@@ -89,19 +84,10 @@ fn leaves_no_arc(curve: Curve) -> bool
 }
 
 // Rule 8, against the radius of another curve beyond a run.
-fn radius_strays(road: &Road, other: Option<Curve>, run: u64, curve: Curve) -> bool
-    ensures { result ≡ strays road.now other run curve }
+fn radius_strays(road: &Road, beyond: Stretch, curve: Curve) -> bool
+    ensures { result ≡ strays road.now beyond.curve beyond.run curve }
 {
-    match other {
-        Some(beyond) => !follows_radius(road, run, beyond.radius, curve.radius),
-        None => false,
-    }
-}
-
-fn is_conventional(class: Class) -> bool
-    ensures { result ≡ conventional class }
-{
-    matches!(class, Class::C)
+    beyond.curve.is_some_and(|other| !follows_radius(road, beyond.run, other.radius, curve.radius))
 }
 
 // Rule 9.
@@ -113,73 +99,75 @@ fn is_cramped(curve: Curve) -> bool
 }
 
 // Rule 10, for a run between two curves.
-fn run_is_short(road: &Road, before: Option<Curve>, run: u64, after: Option<Curve>) -> bool
+fn run_is_short(road: &Road, before: Option<Curve>, run: u128, after: Option<Curve>) -> bool
     ensures { result ≡ short_between road.now before run after }
 {
-    let Some(one) = before else { return false };
-    let Some(other) = after else { return false };
-    run < shortest_run(road, one.sense, other.sense)
-}
-
-// Whether a run may begin after what lies behind. Each straight has a length, so there is none where they sum to 0.
-pub(crate) fn run_begins(behind: Stretch) -> bool
-    ensures { result ≡ begins behind }
-{
-    behind.run == 0
+    before.zip(after).is_some_and(|(one, other)| run
+        < shortest_run(road, one.sense, other.sense) as u128)
 }
 
 // Rule 11.
-fn run_is_long(road: &Road, run: u64) -> bool
+fn run_is_long(road: &Road, run: u128) -> bool
     ensures { result ≡ nat_lt (longest_run_lem road.now.speed) run }
 {
-    longest_run(road) < run
+    (longest_run(road) as u128) < run
 }
 
-fn curve_breaks(road: &Road, kind: Kind, at: &Context, curve: Curve) -> bool
-    ensures { result ≡ curve_breaks_lem road.now kind at.now curve }
-{
-    match kind {
-        Kind::UnadmittedEntry => is_unadmitted(at.clothoids, curve.entry),
-        Kind::UnadmittedExit => is_unadmitted(at.clothoids, curve.exit),
-        Kind::LongEntry => is_too_long(at.clothoids, curve.entry),
-        Kind::LongExit => is_too_long(at.clothoids, curve.exit),
-        Kind::UncalledEntry => is_uncalled_for(at.clothoids, curve.entry),
-        Kind::UncalledExit => is_uncalled_for(at.clothoids, curve.exit),
-        Kind::Unequal => is_unequal(road, curve),
-        Kind::Disharmony => lacks_harmony(road, at.clothoids, at.behind, curve),
-        Kind::NoArc => leaves_no_arc(curve),
-        Kind::TightRadius => curve.radius < road.least_radius,
-        Kind::NextRadius => radius_strays(road, at.behind.curve, at.behind.run, curve),
-        Kind::ReturnRadius => {
-            is_conventional(road.class) && radius_strays(road, at.ahead.curve, at.ahead.run, curve)
-        }
-        Kind::SmallTurn => is_cramped(curve),
-        Kind::SlightTurn => curve.turn < 20_000,
-        Kind::ShortRun | Kind::LongRun => false,
+impl Stretch {
+    // Whether a run may begin after what lies behind. Each straight has a length, so there is none where they sum to 0.
+    pub(crate) fn begins_run(&self) -> bool
+        ensures { result ≡ begins self.now }
+    {
+        self.run == 0
     }
 }
 
-fn straight_breaks(road: &Road, kind: Kind, at: &Context, straight: Straight) -> bool
-    requires { at.now.ahead.run ≤ 80_000_000_000 }
-    ensures { result ≡ straight_breaks_lem road.now kind at.now straight }
-{
-    let run = straight.length as u64 + at.ahead.run;
-    match kind {
-        Kind::ShortRun => {
-            run_begins(at.behind) && run_is_short(road, at.behind.curve, run, at.ahead.curve)
+impl Context {
+    // One line for each kind, so that none is left out.
+    fn curve_breaks(&self, road: &Road, kind: Kind, curve: Curve) -> bool
+        ensures { result ≡ curve_breaks_lem road.now kind self.now curve }
+    {
+        match kind {
+            Kind::UnadmittedEntry => is_unadmitted(self.clothoids, curve.entry),
+            Kind::UnadmittedExit => is_unadmitted(self.clothoids, curve.exit),
+            Kind::LongEntry => is_too_long(self.clothoids, curve.entry),
+            Kind::LongExit => is_too_long(self.clothoids, curve.exit),
+            Kind::UncalledEntry => is_uncalled_for(self.clothoids, curve.entry),
+            Kind::UncalledExit => is_uncalled_for(self.clothoids, curve.exit),
+            Kind::Unequal => is_unequal(road, curve),
+            Kind::Disharmony => lacks_harmony(road, self.clothoids, self.behind, curve),
+            Kind::NoArc => leaves_no_arc(curve),
+            Kind::TightRadius => curve.radius < road.least_radius,
+            Kind::NextRadius => radius_strays(road, self.behind, curve),
+            Kind::ReturnRadius => road.class == Class::C && radius_strays(road, self.ahead, curve),
+            Kind::SmallTurn => is_cramped(curve),
+            Kind::SlightTurn => curve.turn < 20_000,
+            Kind::ShortRun | Kind::LongRun => false,
         }
-        Kind::LongRun => run_begins(at.behind) && run_is_long(road, run),
-        _ => false,
     }
-}
 
-// Whether a row breaks the rule of a kind.
-pub(crate) fn is_broken(road: &Road, kind: Kind, at: &Context) -> bool
-    requires { at.now.ahead.run ≤ 80_000_000_000 }
-    ensures { result ≡ breaks road.now kind at.now }
-{
-    match at.row {
-        Row::Curve(curve) => curve_breaks(road, kind, at, curve),
-        Row::Straight(straight) => straight_breaks(road, kind, at, straight),
+    // The run is summed in a wider type, where each sum fits.
+    fn straight_breaks(&self, road: &Road, kind: Kind, straight: Straight) -> bool
+        ensures { result ≡ straight_breaks_lem road.now kind self.now straight }
+    {
+        let run = straight.length as u128 + self.ahead.run as u128;
+        match kind {
+            Kind::ShortRun => {
+                self.behind.begins_run()
+                    && run_is_short(road, self.behind.curve, run, self.ahead.curve)
+            }
+            Kind::LongRun => self.behind.begins_run() && run_is_long(road, run),
+            _ => false,
+        }
+    }
+
+    // Whether the row breaks the rule of a kind.
+    pub(crate) fn breaks(&self, road: &Road, kind: Kind) -> bool
+        ensures { result ≡ breaks road.now kind self.now }
+    {
+        match self.row {
+            Row::Curve(curve) => self.curve_breaks(road, kind, curve),
+            Row::Straight(straight) => self.straight_breaks(road, kind, straight),
+        }
     }
 }

@@ -1,4 +1,9 @@
-// What a walk along the rows knows at each of them.
+// A walk along the rows of a sheet, and what it knows at each of them.
+ghost use Rattle.std.specs.Prelude.{◌+◌, ◌*◌, ◌≤◌, length};
+
+use limits::limit::Limit;
+use road::road::Road;
+use rows::record::RowRecord;
 use rows::row::{Curve, Row};
 
 // What lies on one side of a row: the nearest curve there, and the length of the straights up to it, or up to the sheet's end, mm.
@@ -8,12 +13,14 @@ pub struct Stretch {
     pub run: u64,
 }
 
-pub const NOTHING: Stretch = Stretch {
-    curve: None,
-    run: 0,
-};
+impl Stretch {
+    pub const NOTHING: Stretch = Stretch {
+        curve: None,
+        run: 0,
+    };
+}
 
-// What the clothoids of a row are held to.
+// What the clothoids of a row are held to. An enum, since an Option in an Option would not say which of the two is missing.
 #[derive(Clone, Copy)]
 pub enum Clothoids {
     // the row calls for none
@@ -29,4 +36,39 @@ pub struct Context {
     pub clothoids: Clothoids,
     pub behind: Stretch,
     pub ahead: Stretch,
+}
+
+// A walk along the rows: those that are left, and what lies behind them.
+#[derive(Drop)]
+pub(crate) struct Walk<'a, L> {
+    pub(crate) road: &'a Road,
+    pub(crate) limit: &'a L,
+    pub(crate) rows: &'a [RowRecord],
+    pub(crate) behind: Stretch,
+    ghost short: { behind.run + 20_000_000 * length rows.now ≤ 80_000_000_000 },
+}
+
+impl<'a, L: Limit> Iterator for Walk<'a, L> {
+    type Item = Context;
+
+    ghost use Rattle.std.specs.Iterator.{YieldsFirst, item_count};
+    ghost use Rattle.findings.specs.Alignments.{left};
+
+    ghost next_gives = { YieldsFirst (left L.Limit.admitted) };
+
+    ghost remaining = { item_count (left L.Limit.admitted) };
+
+    fn next(&mut self) -> Option<Context> {
+        let (record, after) = self.rows.split_first()?;
+        let row = record.read();
+        let behind = self.behind;
+        self.rows = after;
+        self.behind = behind.past(row);
+        Some(Context {
+            row,
+            clothoids: Clothoids::of(row, self.road, self.limit),
+            behind,
+            ahead: Stretch::ahead_of(row, behind, after),
+        })
+    }
 }

@@ -34,10 +34,7 @@ pub struct Label {
 fn parameter_at(radius: u32, length: Option<u32>) -> Option<u32>
     ensures { ParameterOf radius length result }
 {
-    match length {
-        Some(length) => Some(clothoid_parameter(radius, length)),
-        None => None,
-    }
+    length.map(|length| clothoid_parameter(radius, length))
 }
 
 impl Label {

@@ -1,7 +1,9 @@
 -- What the loops over a list of limits keep: the limits left decide.
-use Rattle.std.proofs.Common.{◌≡◌, ℕ, ◌+◌, ◌<◌, ◌≤◌, Bool, true, false, cond, leb, List, ◌∷◌, length as count, get_or, drop, Some, None, Option, sym, refl, ap, ◌∙◌, subst, arith}
+use Rattle.std.proofs.Common.{rules, [], ◌≡◌, ℕ, ◌+◌, ◌<◌, ◌≤◌, Bool, true, false, cond, leb, List, ◌∷◌, length as count, get_or, drop, Some, None, Option, sym, refl, ap, ◌∙◌, subst, arith}
+use Rattle.std.specs.List.{list_all}
 use Rattle.std.proofs.lemmas.List.{drop_more, drop_all}
 use Rattle.limits.specs.Admission.{In, UpToLongest, up_to_longest}
+use Rattle.limits.specs.Lawful.{and_parts}
 use Rattle.limits.specs.All.{all_of, all_lawful}
 use Rattle.limits.specs.Least.{Smallest, LeastOf, larger_of}
 use Rattle.limits.proofs.Leasts.{least_both}
@@ -24,15 +26,19 @@ larger_assoc None b d = refl
 none_smallest : Smallest (In (up_to_longest (λ _. true))) 0
 none_smallest = record { admitted = tt; least = λ _ _. omega arith }
 
-yes_or_not : (b : Bool) → b ≡ cond b true false
-yes_or_not true = refl
-yes_or_not false = refl
+all_are : {L : Type 0} (admitted : L → ℕ → Bool) (length : ℕ) (limits : List L) → cond (list_all (λ limit. admitted limit length) limits) (leb length 2_000_000) false ≡ all_of admitted limits length
+all_are admitted length [] = search rules
+all_are admitted length (limit ∷ limits) = search (rules, all_are admitted length limits)
+
+-- where every limit admits a length, the longest decides
+module _ {L : Type 0} (admitted : L → ℕ → Bool) (length : ℕ) (limits : List L) (asked : Bool) (is : asked ≡ list_all (λ limit. admitted limit length) limits) where
+  pub every : asked ≡ true → leb length 2_000_000 ≡ all_of admitted limits length
+  every is_so = search (rules, all_are admitted length limits)
+
+  pub not_every : asked ≡ false → asked ≡ all_of admitted limits length
+  not_every is_so = search (rules, all_are admitted length limits)
 
 module _ {L : Type 0} (admitted : L → ℕ → Bool) (limits : List L) where
-  -- at the end
-  pub none_left : (i length : ℕ) → count limits ≤ i → leb length 2_000_000 ≡ all_of admitted (drop i limits) length
-  none_left i length past = rw (drop_all i limits past) (yes_or_not (leb length 2_000_000))
-
   pub whole : (i : ℕ) (least : Option ℕ) → count limits ≤ i → Left admitted limits (drop i limits) least → LeastOf (In (all_of admitted limits)) least
   whole i least past left =
       let Least : Option ℕ → Type 0 = LeastOf (In (all_of admitted limits)) in
@@ -43,11 +49,9 @@ module _ {L : Type 0} (admitted : L → ℕ → Bool) (limits : List L) where
     here : drop i limits ≡ limit ∷ drop (i + 1) limits
     here = drop_more limits i limit within ∙ ap (λ (l : L). l ∷ drop (i + 1) limits) (sym is)
 
-    pub passed : (length : ℕ) → true ≡ admitted limit length → all_of admitted (drop (i + 1) limits) length ≡ all_of admitted (drop i limits) length
-    passed length yes_here = rw (here, ← yes_here) refl
-
-    pub refused : (length : ℕ) → false ≡ admitted limit length → false ≡ all_of admitted (drop i limits) length
-    refused length no_here = rw (here, ← no_here) refl
+    pub none_here : ((length : ℕ) → In (admitted limit) length → ⊥) → (others : Option ℕ) → Left admitted limits (drop i limits) others → LeastOf (In (all_of admitted limits)) (larger_of others None)
+    none_here none others left =
+        left None (rw here (λ length t. none length (and_parts (admitted limit length) (all_of admitted (drop (i + 1) limits) length) t).0))
 
     pub one_less : ((l : L) → UpToLongest (admitted l)) → (others least : Option ℕ) → Left admitted limits (drop i limits) others → LeastOf (In (admitted limit)) least → Left admitted limits (drop (i + 1) limits) (larger_of others least)
     one_less lawful others least left is_least rest is_rest =

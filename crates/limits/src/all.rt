@@ -2,7 +2,6 @@
 ghost use Rattle.limits.specs.All.{all_of, all_lawful};
 
 use crate::limit::{LONGEST, Limit};
-use crate::pile::larger;
 use crate::place::Place;
 
 // With no limit in it, it admits every length up to the longest.
@@ -18,20 +17,15 @@ impl<'a, L: Limit> Limit for AllOf<'a, L> {
 
     // Asks in order, and stops at the first no.
     fn admits(&self, place: &Place, length: u32) -> bool {
-        for limit in self.limits {
-            if !limit.admits(place, length) {
-                return false;
-            }
-        }
-        length <= LONGEST
+        self.limits.iter().all(|limit| limit.admits(place, length)) && length <= LONGEST
     }
 
     // The largest of the least lengths.
     fn least_length(&self, place: &Place) -> Option<u32> {
-        let mut least = Some(0);
+        let mut least = 0;
         for limit in self.limits {
-            least = larger(least, limit.least_length(place));
+            least = least.max(limit.least_length(place)?);
         }
-        least
+        Some(least)
     }
 }

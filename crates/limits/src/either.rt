@@ -1,4 +1,4 @@
-// One of two kinds of limit, chosen at run time, so that one list can mix kinds.
+// One of two kinds of limit, chosen at run time, so that one list can mix kinds. No `Result`: neither kind is an error.
 ghost use Rattle.limits.specs.Choice.{chosen, chosen_lawful};
 
 use crate::limit::Limit;

@@ -1,8 +1,6 @@
 // A pile: two limits, each possibly a pile, that admit what both admit.
-ghost use Rattle.std.specs.Prelude.{◌≡◌};
 ghost use Rattle.limits.specs.Admission.{both};
 ghost use Rattle.limits.specs.Lawful.{both_lawful};
-ghost use Rattle.limits.specs.Least.{larger_of};
 
 use crate::limit::Limit;
 use crate::place::Place;
@@ -11,16 +9,6 @@ use crate::place::Place;
 pub struct Pile<A, B> {
     pub first: A,
     pub second: B,
-}
-
-// The larger of two least lengths, and none where either is missing.
-pub(crate) fn larger(one: Option<u32>, other: Option<u32>) -> Option<u32>
-    ensures { result ≡ larger_of one other }
-{
-    match (one, other) {
-        (Some(first), Some(second)) => Some(first.max(second)),
-        _ => None,
-    }
 }
 
 impl<A: Limit, B: Limit> Limit for Pile<A, B> {
@@ -34,9 +22,8 @@ impl<A: Limit, B: Limit> Limit for Pile<A, B> {
 
     // The larger of the two least lengths.
     fn least_length(&self, place: &Place) -> Option<u32> {
-        larger(
-            self.first.least_length(place),
-            self.second.least_length(place),
-        )
+        let first = self.first.least_length(place)?;
+        let second = self.second.least_length(place)?;
+        Some(first.max(second))
     }
 }

@@ -8,6 +8,8 @@ use Rattle.road.specs.Opening.{Outside}
 use Rattle.road.specs.Refusals.{Ground, ground, FirstApplying, Clear}
 use Rattle.limits.specs.declared.place.Place.{Place}
 use Rattle.limits.specs.Admission.{UpToLongest}
+use Rattle.rows.specs.Ends.{length_at}
+use Rattle.rows.specs.declared.end.End.{End}
 use Rattle.rows.specs.declared.row.Curve.{Curve}
 use Rattle.rows.specs.declared.row.Row.{Row}
 use Rattle.rows.specs.declared.row.Row.TheVariants as row
@@ -16,8 +18,6 @@ use Rattle.findings.specs.declared.finding.Finding.{Finding}
 use Rattle.findings.specs.Findings.{FindingsOf}
 use Rattle.plain.specs.declared.NewRow.{NewRow}
 use Rattle.plain.specs.declared.NewRow.TheVariants as new
-use Rattle.plain.specs.declared.End.{End}
-use Rattle.plain.specs.declared.End.TheVariants as end
 use Rattle.plain.specs.Lengths.{LeastLengths, NoLengths, FirstWithout}
 
 -- A draft may be edited; a fitted sheet has the least lengths, and may not.
@@ -142,10 +142,6 @@ pub record WithLengths (c : Curve) (entry exit : ℕ) (d : Curve) : Type 0 where
   pub turn : d.turn ≡ c.turn
   pub entry_is : d.entry ≡ entry
   pub exit_is : d.exit ≡ exit
-
-abbrev pub length_at : End → Curve → ℕ
-length_at end.Entry c = c.entry
-length_at end.Exit c = c.exit
 
 abbrev pub with_rows : Plain → List Row → Plain
 with_rows s rows = record { road = s.road; rows = rows; mark = s.mark }

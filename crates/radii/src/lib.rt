@@ -1,13 +1,16 @@
 // The radii that keep a rule: mm.
 #![tactic(auto)]
 
+ghost use Rattle.std.specs.Prelude.{◌≡◌, Some, None};
 ghost use Rattle.limits.specs.Least.{Smallest};
 ghost use Rattle.findings.specs.Rules.{Tabled, Follows};
 ghost use Rattle.radii.specs.Ranges.{RangeOf, WideEnough};
+ghost use Rattle.radii.specs.Words.{radius_words};
 
 use findings::figures::{limited_length, radius_after_run};
 use road::road::Road;
 use rows::row::Curve;
+use std::fmt;
 
 // The radii that may follow another.
 #[derive(Clone, Copy)]
@@ -16,16 +19,37 @@ pub struct NextRadius {
     pub greatest: Option<u64>,
 }
 
+impl NextRadius {
+    // The radii from a least one on.
+    fn from_least(least: u64) -> NextRadius
+        ensures { (result.least ≡ least) × (result.greatest ≡ None) }
+    {
+        NextRadius {
+            least,
+            greatest: None,
+        }
+    }
+}
+
+impl fmt::Display for NextRadius {
+    ghost output = { λ range. Some (radius_words range) };
+
+    fn fmt<W: fmt::Write>(&self, f: &mut fmt::Formatter<W>) -> fmt::Result {
+        let least = self.least;
+        match self.greatest {
+            Some(greatest) => write!(f, "{least} to {greatest} mm"),
+            None => write!(f, "at least {least} mm"),
+        }
+    }
+}
+
 // The radii that may follow by Table 4.7.
 fn tabled(radius: u32) -> NextRadius
     ensures { RangeOf (Tabled radius) result }
 {
     let r = radius as u64;
     if r < 50_000 {
-        NextRadius {
-            least: 0,
-            greatest: None,
-        }
+        NextRadius::from_least(0)
     } else if r <= 450_000 {
         NextRadius {
             least: (50 * r + 600_600).div_ceil(77),
@@ -37,15 +61,9 @@ fn tabled(radius: u32) -> NextRadius
             greatest: Some((110 * r - 32_000_001) / 25),
         }
     } else if r <= 1_800_000 {
-        NextRadius {
-            least: (40 * r + 22_504_500).div_ceil(135),
-            greatest: None,
-        }
+        NextRadius::from_least((40 * r + 22_504_500).div_ceil(135))
     } else {
-        NextRadius {
-            least: 700_000,
-            greatest: None,
-        }
+        NextRadius::from_least(700_000)
     }
 }
 
@@ -54,11 +72,9 @@ pub fn next_radius(road: &Road, run: u64, radius: u32) -> NextRadius
     ensures { RangeOf (Follows road.now run radius) result }
 {
     if run <= limited_length(road.speed) {
-        return tabled(radius);
-    }
-    NextRadius {
-        least: radius_after_run(road) as u64,
-        greatest: None,
+        tabled(radius)
+    } else {
+        NextRadius::from_least(radius_after_run(road) as u64)
     }
 }
 

@@ -1,5 +1,7 @@
 -- The refusals: each by its number and the row that it names, and which one a call gives.
 use Rattle.std.specs.Prelude.{◌≡◌, ℕ, ◌⊎◌, List, [], ◌∷◌}
+use Rattle.road.specs.declared.range.OutOfRange.{OutOfRange}
+use Rattle.road.specs.declared.range.OutOfRange.TheVariants as out
 use Rattle.road.specs.declared.refusal.Refusal.{Refusal}
 use Rattle.road.specs.declared.refusal.Refusal.TheVariants.{NoSuchRoad, EdgeOrLanes, StraightLength, Radius, Turn, HandLength, ShortMemory, NoSuchPlace, NotACurve, Full, NoRows, NoFit}
 
@@ -54,3 +56,10 @@ Clear (g ∷ gs) = (g.applies → ⊥) × Clear gs
 pub record Refused (grounds : List Ground) (row : ℕ) (refusal : Refusal) : Type 0 where
   pub smallest : FirstApplying grounds (number_of refusal)
   pub names : row_of refusal ≡ row
+
+-- The refusal of a number that is outside its range, naming that row.
+abbrev pub refused_for : OutOfRange → ℕ → Refusal
+refused_for out.StraightLength row = StraightLength row
+refused_for out.Radius row = Radius row
+refused_for out.Turn row = Turn row
+refused_for out.ClothoidLength row = HandLength row

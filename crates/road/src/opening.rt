@@ -3,7 +3,7 @@ ghost use Rattle.std.specs.Prelude.{◌≡◌, ◌≤◌};
 ghost use Rattle.road.specs.Roads.{lane_factor_of, jerk_of};
 ghost use Rattle.road.specs.Opening.{Opened};
 
-use crate::class::Class;
+use crate::design::RoadDesign;
 use crate::jerk::JerkChoice;
 use crate::line::line_of;
 use crate::refusal::Refusal;
@@ -38,19 +38,18 @@ fn jerk(choice: JerkChoice, speed: u32) -> u32
 }
 
 impl Road {
-    // The road of a class and a speed, with the edge distance and the lanes turning, or why there is none.
-    pub fn open(
-        class: Class,
-        speed: u32,
-        edge: u32,
-        lanes: u32,
-        choice: JerkChoice,
-    ) -> Result<Road, Refusal>
-        ensures { Opened class speed edge lanes choice result }
+    // The road of a design, or why there is none.
+    pub fn open(design: RoadDesign) -> Result<Road, Refusal>
+        ensures { Opened design result }
     {
-        let Some(line) = line_of(class, speed) else {
-            return Err(Refusal::NoSuchRoad);
-        };
+        let RoadDesign {
+            class,
+            speed,
+            edge,
+            lanes,
+            choice,
+        } = design;
+        let line = line_of(class, speed).ok_or(Refusal::NoSuchRoad)?;
         if edge == 0 || edge > WIDEST || lanes == 0 || lanes > 3 {
             return Err(Refusal::EdgeOrLanes);
         }

@@ -1,5 +1,5 @@
 -- What each call of a roll answers, and what the roll holds then.
-use Rattle.std.specs.Prelude.{◌≡◌, ℕ, ◌+◌, ◌<◌, ◌≤◌, min, List, [], ◌∷◌, ◌++◌, length, Some, None, Ok, Err, Option, Result, slice_index_or}
+use Rattle.std.specs.Prelude.{◌≡◌, ℕ, ◌+◌, ◌<◌, ◌≤◌, List, [], ◌∷◌, ◌++◌, length, Some, None, Ok, Err, Option, Result, slice_index_or}
 use Rattle.roll.specs.Contents.{entries, spare, with_inserted, with_removed}
 use Rattle.roll.specs.declared.Roll.{Roll}
 use Rattle.roll.specs.declared.RollRefusal.{RollRefusal}
@@ -9,9 +9,9 @@ use Rattle.roll.specs.declared.RollRefusal.TheVariants.{NoSuchPlace, Full}
 abbrev pub memory : {T : Type 0} → Roll T → List T
 memory roll = roll.slots.now
 
--- how many entries the roll has, never more than its slots
+-- how many entries the roll has, by its type never more than its slots
 abbrev pub number : {T : Type 0} → Roll T → ℕ
-number roll = min roll.count (length (memory roll))
+number roll = roll.count
 
 -- the entries of the roll, in their order
 abbrev pub entries_of : {T : Type 0} → Roll T → List T

@@ -1,12 +1,7 @@
 // A roll: entries kept in order, without gaps, at the front of a lent slice.
 #![tactic(auto)]
 
-mod shift;
-
-ghost use Rattle.std.specs.Prelude.{◌≡◌, min, length};
-ghost use Rattle.roll.specs.Edits.{memory, number, SameLoan, Inserted, Pushed, Removed, Read};
-
-use shift::{entry_at, insert_entry, put_entry, remove_entry};
+ghost use Rattle.std.specs.Prelude.{◌≡◌, ◌≤◌, min, length};
 
 // Why a roll refuses an edit.
 #[derive(Clone, Copy, PartialEq, Eq, Debug)]
@@ -17,14 +12,17 @@ pub enum RollRefusal {
     Full,
 }
 
-// The entries are the first `count` slots, or all of them where there are fewer.
+// The entries are the first `count` slots: a lent slice with a count, since the memory is the caller's.
 #[derive(Drop)]
 pub struct Roll<'a, T> {
     slots: &'a mut [T],
     count: usize,
+    ghost fits: { count ≤ length slots.now },
 }
 
 impl<'a, T: Copy> Roll<'a, T> {
+    ghost use Rattle.roll.specs.Edits.{memory, number, entries_of, SameLoan, Inserted, Pushed, Removed, Read};
+
     // The roll with no entries yet.
     pub fn empty(slots: &'a mut [T]) -> Roll<'a, T>
         ensures slots { memory result ≡ slots.old }
@@ -40,14 +38,22 @@ impl<'a, T: Copy> Roll<'a, T> {
         ensures same { result.slots.ghost_name ≡ slots.entry.ghost_name }
         ensures count { number result ≡ min count (length slots.old) }
     {
+        let count = count.min(slots.len());
         Roll { slots, count }
+    }
+
+    // The entries, in their order.
+    fn entries(&self) -> &[T]
+        ensures { result.now ≡ entries_of self.now }
+    {
+        &self.slots[..self.count]
     }
 
     // How many entries there are.
     pub fn len(&self) -> usize
         ensures { result ≡ number self.now }
     {
-        self.count.min(self.capacity())
+        self.entries().len()
     }
 
     // How many entries there is room for.
@@ -61,27 +67,24 @@ impl<'a, T: Copy> Roll<'a, T> {
     pub fn get(&self, place: usize) -> Option<T>
         ensures { Read self.now place result }
     {
-        if place < self.len() {
-            Some(entry_at(self.slots, place))
-        } else {
-            None
-        }
+        self.entries().get(place).copied()
     }
 
     // Puts `value` in as entry `place`; the entries from there on move one place up.
+    #[tactic(auto, using(crate::proofs::Shifts::moved_up))]
     pub fn insert(&mut self, place: usize, value: T) -> Result<(), RollRefusal>
         ensures same { SameLoan self.old self.new }
         ensures edit { Inserted self.old self.new place value result }
     {
-        let count = self.len();
-        if place > count {
+        if place > self.count {
             return Err(RollRefusal::NoSuchPlace);
         }
-        if count == self.capacity() {
+        if self.count == self.capacity() {
             return Err(RollRefusal::Full);
         }
-        insert_entry(self.slots, count, place, value);
-        self.count = count + 1;
+        self.slots.copy_within(place..self.count, place + 1);
+        self.slots[place] = value;
+        self.count += 1;
         Ok(())
     }
 
@@ -90,26 +93,27 @@ impl<'a, T: Copy> Roll<'a, T> {
         ensures same { SameLoan self.old self.new }
         ensures edit { Pushed self.old self.new value result }
     {
-        let place = self.len();
-        if place == self.capacity() {
+        let end = self.count;
+        if end == self.capacity() {
             return Err(RollRefusal::Full);
         }
-        put_entry(self.slots, place, value);
-        self.count = place + 1;
+        self.slots[end] = value;
+        self.count += 1;
         Ok(())
     }
 
     // Takes entry `place` out; the later entries move one place down, and the freed slot gets `blank`.
+    #[tactic(auto, using(crate::proofs::Shifts::moved_down))]
     pub fn remove(&mut self, place: usize, blank: T) -> Result<(), RollRefusal>
         ensures same { SameLoan self.old self.new }
         ensures edit { Removed self.old self.new place blank result }
     {
-        let count = self.len();
-        if place >= count {
+        if place >= self.count {
             return Err(RollRefusal::NoSuchPlace);
         }
-        remove_entry(self.slots, count, place, blank);
-        self.count = count - 1;
+        self.slots.copy_within(place + 1..self.count, place);
+        self.count -= 1;
+        self.slots[self.count] = blank;
         Ok(())
     }
 }

@@ -1,54 +1,69 @@
 // Making rows from numbers, reading a record as a row, and writing a row as a record.
-ghost use Rattle.std.specs.Prelude.{◌≡◌};
-ghost use Rattle.rows.specs.Reading.{straight_of, straight_row_lem, curve_of, curve_row_lem, blank_row, row_of, record_of};
+ghost use Rattle.std.specs.Prelude.{◌≡◌, MatchResult};
+ghost use Rattle.rows.specs.Reading.{blank_row, row_of, record_of};
+ghost use Rattle.rows.specs.Outside.{NoStraight, NoCurve, ReadAs};
+ghost use Rattle.rows.specs.declared.record.RowRecord.TheVariants as kept;
+ghost use Rattle.rows.specs.declared.row.Row.TheVariants as row;
 
+use crate::range::LONGEST_STRAIGHT;
 use crate::record::RowRecord;
 use crate::row::{Curve, Row, Sense, Straight};
 use limits::limit::LONGEST as LONGEST_CLOTHOID;
-
-// The ranges of a row's numbers: mm, and ten-thousandths of a gon.
-const LONGEST_STRAIGHT: u32 = 20_000_000;
-
-const TIGHTEST: u32 = 1_000;
-
-const WIDEST: u32 = 10_000_000;
-
-const LARGEST_TURN: u32 = 2_000_000;
+use limits::making::check_curve;
+use road::range::OutOfRange;
 
 impl Straight {
-    // The straight of that length, if it is in range.
-    pub fn new(length: u32) -> Option<Straight>
-        ensures { result ≡ straight_of length }
+    // The straight of that length, if that is in range.
+    pub fn new(length: u32) -> Result<Straight, OutOfRange>
+        ensures { MatchResult result (λ straight. straight.length ≡ length) (NoStraight length) }
     {
-        if 1 <= length && length <= LONGEST_STRAIGHT {
-            Some(Straight { length })
-        } else {
-            None
+        if length == 0 || length > LONGEST_STRAIGHT {
+            return Err(OutOfRange::StraightLength);
         }
+        Ok(Straight { length })
     }
 }
 
 impl Curve {
-    // The curve of those numbers, if they are in their ranges.
-    pub fn new(sense: Sense, radius: u32, turn: u32, entry: u32, exit: u32) -> Option<Curve>
-        ensures { result ≡ curve_of sense radius turn entry exit }
+    // The curve of those numbers, or the first of them that is outside its range. In a struct they would be a record again.
+    pub fn new(
+        sense: Sense,
+        radius: u32,
+        turn: u32,
+        entry: u32,
+        exit: u32,
+    ) -> Result<Curve, OutOfRange>
+        ensures { MatchResult result (λ curve. record_of (row.Curve curve) ≡ kept.Curve sense radius turn entry exit) (NoCurve radius turn entry exit) }
     {
-        let fits = TIGHTEST <= radius
-            && radius <= WIDEST
-            && 1 <= turn
-            && turn <= LARGEST_TURN
-            && entry <= LONGEST_CLOTHOID
-            && exit <= LONGEST_CLOTHOID;
-        if fits {
-            Some(Curve {
+        check_curve(radius, turn)?;
+        if entry > LONGEST_CLOTHOID || exit > LONGEST_CLOTHOID {
+            return Err(OutOfRange::ClothoidLength);
+        }
+        Ok(Curve {
+            sense,
+            radius,
+            turn,
+            entry,
+            exit,
+        })
+    }
+}
+
+impl TryFrom<RowRecord> for Row {
+    type Error = OutOfRange;
+
+    ghost try_from_gives = { ReadAs };
+
+    fn try_from(stored: RowRecord) -> Result<Row, OutOfRange> {
+        match stored {
+            RowRecord::Straight { length } => Straight::new(length).map(Row::Straight),
+            RowRecord::Curve {
                 sense,
                 radius,
                 turn,
                 entry,
                 exit,
-            })
-        } else {
-            None
+            } => Curve::new(sense, radius, turn, entry, exit).map(Row::Curve),
         }
     }
 }
@@ -59,51 +74,24 @@ fn blank() -> Row
     Row::Straight(Straight { length: 1 })
 }
 
-fn read_straight(length: u32) -> Row
-    ensures { result ≡ straight_row_lem (straight_of length) }
-{
-    match Straight::new(length) {
-        Some(straight) => Row::Straight(straight),
-        None => blank(),
-    }
-}
-
-fn read_curve(sense: Sense, radius: u32, turn: u32, entry: u32, exit: u32) -> Row
-    ensures { result ≡ curve_row_lem (curve_of sense radius turn entry exit) }
-{
-    match Curve::new(sense, radius, turn, entry, exit) {
-        Some(curve) => Row::Curve(curve),
-        None => blank(),
-    }
-}
-
 impl RowRecord {
     // The record of the blank row.
     pub const BLANK: RowRecord = RowRecord::Straight { length: 1 };
 
     // The row that the record stands for; one with a number outside its range stands for the blank row.
+    // No `From`, since it forgets numbers: the exact reading is `Row::try_from`.
     pub fn read(self) -> Row
         ensures { result ≡ row_of self }
     {
-        match self {
-            RowRecord::Straight { length } => read_straight(length),
-            RowRecord::Curve {
-                sense,
-                radius,
-                turn,
-                entry,
-                exit,
-            } => read_curve(sense, radius, turn, entry, exit),
-        }
+        Row::try_from(self).unwrap_or(blank())
     }
 }
 
-impl Row {
-    // The record that stands for the row.
-    pub fn record(self) -> RowRecord
-        ensures { (result ≡ record_of self) × (row_of result ≡ self) }
-    {
-        match self {
+impl From<Row> for RowRecord {
+    ghost from_gives = { λ written stored. (stored ≡ record_of written) × (row_of stored ≡ written) };
+
+    fn from(row: Row) -> RowRecord {
+        match row {
             Row::Straight(straight) => RowRecord::Straight {
                 length: straight.length,
             },

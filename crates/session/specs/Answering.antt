@@ -5,37 +5,38 @@ use Rattle.std.specs.Borrow.{Bor}
 use Rattle.text.specs.Words.{Words}
 use Rattle.commands.specs.declared.mistake.ParseError.{ParseError}
 use Rattle.commands.specs.Said.{Answers}
-use Rattle.road.specs.declared.class.Class.{Class}
-use Rattle.road.specs.declared.jerk.JerkChoice.{JerkChoice}
+use Rattle.road.specs.declared.design.RoadDesign.{RoadDesign}
 use Rattle.road.specs.declared.road.Road as roads
 use Rattle.road.specs.Opening as opening
 use Rattle.label.specs.Labels as labels
 use Rattle.commands.specs.declared.command.Command.{Command}
 use Rattle.commands.specs.declared.command.Command.TheVariants.{Road, Label}
 use Rattle.answers.specs.declared.answer.Answer.{Answer}
-use Rattle.answers.specs.declared.answer.Answer.TheVariants.{Opened, Labelled, Refused, NoRoad}
+use Rattle.answers.specs.declared.answer.Answer.TheVariants.{Opened, Labelled}
+use Rattle.answers.specs.declared.failure.Failure.{Failure}
+use Rattle.answers.specs.declared.failure.Failure.TheVariants.{Refused, NoRoad}
 
 -- `road` opens the road that the library gives; where the library refuses, the road that was open stays
-abbrev pub Reopened : Class → ℕ → ℕ → ℕ → JerkChoice → Option roads.Road → Option roads.Road → Answer → Type 0
-Reopened class speed edge lanes choice before after (Opened road) = opening.Opened class speed edge lanes choice (Ok road) × (after ≡ Some road)
-Reopened class speed edge lanes choice before after (Refused refusal) = opening.Opened class speed edge lanes choice (Err refusal) × (after ≡ before)
-Reopened class speed edge lanes choice before after (Labelled radius turn label) = ⊥
-Reopened class speed edge lanes choice before after NoRoad = ⊥
+abbrev pub Reopened : RoadDesign → Option roads.Road → Option roads.Road → Result Answer Failure → Type 0
+Reopened design before after (Ok (Opened road)) = opening.Opened design (Ok road) × (after ≡ Some road)
+Reopened design before after (Ok (Labelled radius turn label)) = ⊥
+Reopened design before after (Err (Refused refusal)) = opening.Opened design (Err refusal) × (after ≡ before)
+Reopened design before after (Err NoRoad) = ⊥
 
 -- `label` answers the label that the library gives the curve on the open road, or its refusal
-abbrev pub LabelsOn : roads.Road → ℕ → ℕ → Answer → Type 0
-LabelsOn road radius turn (Labelled radius' turn' label) = (radius' ≡ radius) × (turn' ≡ turn) × labels.Labelled road radius turn (Ok label)
-LabelsOn road radius turn (Refused refusal) = labels.Labelled road radius turn (Err refusal)
-LabelsOn road radius turn (Opened other) = ⊥
-LabelsOn road radius turn NoRoad = ⊥
+abbrev pub LabelsOn : roads.Road → ℕ → ℕ → Result Answer Failure → Type 0
+LabelsOn road radius turn (Ok (Labelled radius' turn' label)) = (radius' ≡ radius) × (turn' ≡ turn) × labels.Labelled road radius turn (Ok label)
+LabelsOn road radius turn (Ok (Opened other)) = ⊥
+LabelsOn road radius turn (Err (Refused refusal)) = labels.Labelled road radius turn (Err refusal)
+LabelsOn road radius turn (Err NoRoad) = ⊥
 
-abbrev pub Labels : ℕ → ℕ → Option roads.Road → Answer → Type 0
+abbrev pub Labels : ℕ → ℕ → Option roads.Road → Result Answer Failure → Type 0
 Labels radius turn (Some road) answer = LabelsOn road radius turn answer
-Labels radius turn None answer = answer ≡ NoRoad
+Labels radius turn None answer = answer ≡ Err NoRoad
 
 -- before and after are the road that is open
-abbrev pub Applied : Command → Option roads.Road → Option roads.Road → Answer → Type 0
-Applied (Road class speed edge lanes choice) before after answer = Reopened class speed edge lanes choice before after answer
+abbrev pub Applied : Command → Option roads.Road → Option roads.Road → Result Answer Failure → Type 0
+Applied (Road design) before after answer = Reopened design before after answer
 Applied (Label radius turn) before after answer = (after ≡ before) × Labels radius turn before answer
 
 -- one more, up to the greatest number of 64 bits
@@ -43,16 +44,15 @@ abbrev pub Counted : ℕ → ℕ → Type 0
 Counted before after = after ≡ min (before + 1) (2 ^ 64 - 1)
 
 -- A line whose command asks for an open road where there is none is wrong; any other answer is not.
-abbrev pub CountedBy : Answer → ℕ → ℕ → Type 0
-CountedBy NoRoad before after = Counted before after
-CountedBy (Opened road) before after = after ≡ before
-CountedBy (Labelled radius turn label) before after = after ≡ before
-CountedBy (Refused refusal) before after = after ≡ before
+abbrev pub CountedBy : Result Answer Failure → ℕ → ℕ → Type 0
+CountedBy (Ok answer) before after = after ≡ before
+CountedBy (Err (Refused refusal)) before after = after ≡ before
+CountedBy (Err NoRoad) before after = Counted before after
 
 -- What a line leaves, by what its words say: the road that is open, and how many lines were wrong.
 abbrev pub LeftBy : Result (Option Command) ParseError → Option roads.Road → ℕ → Option roads.Road → ℕ → Type 0
 LeftBy (Ok None) road wrong road' wrong' = (road' ≡ road) × (wrong' ≡ wrong)
-LeftBy (Ok (Some command)) road wrong road' wrong' = (answer : Answer) × Applied command road road' answer × CountedBy answer wrong wrong'
+LeftBy (Ok (Some command)) road wrong road' wrong' = (answer : Result Answer Failure) × Applied command road road' answer × CountedBy answer wrong wrong'
 LeftBy (Err mistake) road wrong road' wrong' = (road' ≡ road) × Counted wrong wrong'
 
 -- The same of a line of text.

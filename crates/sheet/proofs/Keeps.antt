@@ -15,7 +15,8 @@ use Rattle.rows.specs.Reading.{row_of, rows_of, record_of, blank_record}
 use Rattle.plain.specs.declared.NewRow.{NewRow}
 use Rattle.plain.specs.declared.NewRow.TheVariants as new
 use Rattle.plain.specs.Sheet.{draft, RowAt, with_rows, Given, WithLengths, add, take_out, set_lengths, Call, named, Answer, done, refused, Allowed, grounds, number_grounds, Effect, refusing, carrying}
-use Rattle.sheet.specs.States.{State, shown, given_record, refusal, Relengthened, MemoryAfter, Performs}
+use Rattle.plain.specs.Given.{given_record}
+use Rattle.sheet.specs.States.{State, shown, refusal, MemoryAfter, Performs}
 use Rattle.sheet.proofs.RowEdits.{rows_inserted, rows_removed, rows_set, length_inserted_within, length_removed_within}
 
 -- a draft's state
@@ -76,15 +77,19 @@ row_at memory count n r d fits within reads =
       is = reads ∙ sym (get_or-map row_of (take count memory) n d r here ∙ ap row_of (get_or-take count memory n d within));
     }
 
+-- a record of the first ones stands at its place in the memory
+pub found_at : (memory front : List RowRecord) (count n : ℕ) (x : RowRecord) → front ≡ take count memory → count ≤ length memory → n < length front → x ≡ get_or front n x → (n < count) × (x ≡ get_or memory n x)
+found_at memory front count n x is fits within at =
+    let long : length front ≡ count = ap length is ∙ length-take-le count memory fits in
+    let here : n < count = omega arith in
+    (here, at ∙ ap (λ xs. get_or xs n x) is ∙ get_or-take count memory n x here)
+
 -- a row is not both a straight and a curve
 never_both : (rows : List Row) (n : ℕ) (c : Curve) (s : Straight) → RowAt rows n (row.Curve c) → RowAt rows n (row.Straight s) → ⊥
 never_both rows n c s curve straight =
     let same = get_or_default rows n (row.Curve c) (row.Straight s) curve.within in
     let never : ◌≡◌ {A = ℕ} 0 1 = cc (curve.is, straight.is) in
     omega arith
-
-curve_record : (c : Curve) (entry exit : ℕ) (d : Curve) → WithLengths c entry exit d → record_of (row.Curve d) ≡ stored.Curve c.sense c.radius c.turn entry exit
-curve_record c entry exit d is = cc (is.sense, is.radius, is.turn, is.entry_is, is.exit_is)
 
 module _ (road : Road) (count : ℕ) (memory memory' : List RowRecord) where
   -- a row was added, through a roll of the first rows
@@ -114,17 +119,18 @@ module _ (road : Road) (count : ℕ) (memory memory' : List RowRecord) where
       exact (omega arith) long
 
   -- both lengths of a curve were set
-  pub relengthened : (n entry exit : ℕ) (c : Curve) (r : Row) (value d : RowRecord) → entry ≤ 2_000_000 → exit ≤ 2_000_000 → count ≤ length memory → n < count → row.Curve c ≡ row_of (get_or memory n d) → Relengthened c entry exit r → value ≡ record_of r → memory' ≡ set memory n value → Performs (draft_of road count memory) (set_lengths n entry exit) done (draft_of road count memory')
-  relengthened n entry exit c (row.Straight s) value default low low' fits within reads is kept after = absurd is
-  relengthened n entry exit c (row.Curve d) value default low low' fits within reads is kept after =
-      let long : length memory' ≡ length memory = ap length after ∙ length-set memory n value in
+  pub relengthened : (n entry exit : ℕ) (c : Curve) (d : RowRecord) → entry ≤ 2_000_000 → exit ≤ 2_000_000 → count ≤ length memory → n < count → row.Curve c ≡ row_of (get_or memory n d) → memory' ≡ set memory n (stored.Curve c.sense c.radius c.turn entry exit) → Performs (draft_of road count memory) (set_lengths n entry exit) done (draft_of road count memory')
+  relengthened n entry exit c default low low' fits within reads after =
+      let d : Curve = record { sense = c.sense; radius = c.radius; turn = c.turn; entry = entry; exit = exit; within = (c.within.0, (c.within.1.0, (low, low'))) } in
+      let is : WithLengths c entry exit d = record { sense = refl; radius = refl; turn = refl; entry_is = refl; exit_is = refl } in
+      let long : length memory' ≡ length memory = ap length after ∙ length-set memory n (record_of (row.Curve d)) in
       let here = row_at memory count n (row.Curve c) default fits within reads in
       carried (draft_of road count memory) (set_lengths n entry exit) (draft_of road count memory') tt (
         λ above. elim above [ inl a ↦ omega arith | inr b ↦ omega arith ],
         (λ short. omega arith, (λ beyond. omega arith, (λ straight. never_both _ n c straight.0 here straight.1, tt))),
       )
-      (refl, (c, d, here, is, ap (λ rows. with_rows (shown (draft_of road count memory)) rows) (ap (λ m. rows_of m count) (after ∙ ap (set memory n) kept) ∙ rows_set memory count n (row.Curve d) within)))
-      (c, reads ∙ ap row_of (get_or_default memory n default blank_record (omega arith)), after ∙ ap (set memory n) (kept ∙ curve_record c entry exit d is))
+      (refl, (c, d, here, is, ap (λ rows. with_rows (shown (draft_of road count memory)) rows) (ap (λ m. rows_of m count) after ∙ rows_set memory count n (row.Curve d) within)))
+      (c, reads ∙ ap row_of (get_or_default memory n default blank_record (omega arith)), after)
       (omega arith) long
 
   -- a straight has no lengths to set

@@ -1,3 +1,4 @@
 pub mod RowEdits
 pub mod Keeps
 pub mod Checks
+pub mod Errors

@@ -12,8 +12,8 @@ use Rattle.rows.specs.declared.row.Row.TheVariants as row
 use Rattle.rows.specs.Reading.{row_of, rows_of, blank_record}
 use Rattle.findings.specs.declared.finding.Finding.{Finding}
 use Rattle.plain.specs.declared.NewRow.{NewRow}
-use Rattle.plain.specs.declared.NewRow.TheVariants as new
-use Rattle.plain.specs.Sheet.{Mark, draft, Plain, Call, add, take_out, set_lengths, check, fit, parameter, reopen, Answer, done, found, refused, Stopped, number_grounds, Given, WithLengths, StepAt}
+use Rattle.plain.specs.Given.{given_record}
+use Rattle.plain.specs.Sheet.{Mark, draft, Plain, Call, add, take_out, set_lengths, check, fit, parameter, reopen, Answer, done, found, refused, Stopped, number_grounds, Given, StepAt}
 use Rattle.sheet.specs.declared.draft.Draft.{Draft}
 
 -- A sheet's numbers, with the row memory that is lent to it.
@@ -29,11 +29,6 @@ drafted d memory = record { mark = draft; road = d.road; count = d.count; memory
 -- The plain sheet that a state shows: its rows are what the first `count` records stand for.
 abbrev pub shown : State → Plain
 shown s = record { road = s.road; rows = rows_of s.memory s.count; mark = s.mark }
-
--- The record that an added row is kept by.
-abbrev pub given_record : NewRow → RowRecord
-given_record (new.Straight length) = stored.Straight length
-given_record (new.Curve sense radius turn) = stored.Curve sense radius turn 0 0
 
 -- What the row memory holds, to the last slot, after a call that was carried out.
 abbrev pub MemoryAfter : Call → (count : ℕ) → List RowRecord → List RowRecord → Type 0
@@ -76,8 +71,3 @@ Untouched (Err r) before after = after ≡ before
 abbrev pub Numbered : ℕ → NewRow → Result Row Refusal → Type 0
 Numbered place given (Ok r) = Clear (number_grounds given []) × Given given r
 Numbered place given (Err refusal) = Refused (number_grounds given []) place refusal
-
--- The row of a curve with other lengths.
-abbrev pub Relengthened : Curve → (entry exit : ℕ) → Row → Type 0
-Relengthened c entry exit (row.Straight s) = ⊥
-Relengthened c entry exit (row.Curve d) = WithLengths c entry exit d

@@ -21,12 +21,7 @@ impl Draft {
         ensures step { Performs (drafted self.now rows.now) (asking (record { admits = L.Limit.admitted limit.now; lawful = L.Limit.lawful limit.now }) (length findings.old)) (listed result findings.new) (drafted self.now rows.now) }
         ensures rest { Untouched result findings.old findings.new }
     {
-        if rows.len() < self.count {
-            return Err(Refusal::ShortMemory { row: 0 });
-        }
-        match check(&self.road, limit, &rows[0..self.count], findings) {
-            Ok(count) => Ok(count),
-            Err(_) => Err(Refusal::Full { row: 0 }),
-        }
+        let records = self.records(rows, 0)?;
+        check(&self.road, limit, records, findings).map_err(|_| Refusal::Full { row: 0 })
     }
 }

@@ -6,6 +6,7 @@ use road::road::Road;
 #[derive(Drop)]
 pub struct Draft {
     pub(crate) road: Road,
+    // of the rows, which lie in memory that is lent to each call, as there is no heap
     pub(crate) count: usize,
     ghost few: { count ≤ 4_000 },
 }

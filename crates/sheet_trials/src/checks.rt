@@ -1,18 +1,20 @@
 // Each rule on both sides of its boundary, and where curves call for clothoids.
-use crate::made::{Piece, ROOM, found};
+use crate::made::{ROOM, curve, found, straight};
 use road::class::Class;
+use rows::record::RowRecord;
+use rows::row::Sense::{Left, Right};
 use std::process::Abort;
 use std::test::Fail;
 
-// The pieces, on a road of that class and speed, give these findings and no others: row, rule, side.
+// The rows, on a road of that class and speed, give these findings and no others: row, rule, side.
 fn gives(
     rt: &impl Abort,
     class: Class,
     speed: u32,
-    pieces: &[Piece],
+    rows: &[RowRecord],
     expected: &[(usize, u32, u32)],
 ) -> Result<(), Fail> {
-    let shown = found(class, speed, pieces)?;
+    let shown = found(class, speed, rows)?;
     let mut wanted = [(0, 0, 0); ROOM];
     for (slot, finding) in wanted.iter_mut().zip(expected) {
         *slot = *finding;
@@ -22,12 +24,16 @@ fn gives(
 }
 
 // On a conventional road for 100 km/h.
-fn on_c100(rt: &impl Abort, pieces: &[Piece], expected: &[(usize, u32, u32)]) -> Result<(), Fail> {
-    gives(rt, Class::C, 100, pieces, expected)
+fn on_c100(
+    rt: &impl Abort,
+    rows: &[RowRecord],
+    expected: &[(usize, u32, u32)],
+) -> Result<(), Fail> {
+    gives(rt, Class::C, 100, rows, expected)
 }
 
-fn lone(radius: u32, turn: u32, entry: u32, exit: u32) -> [Piece; 1] {
-    [Piece::Left(radius, turn, entry, exit)]
+fn lone(radius: u32, turn: u32, entry: u32, exit: u32) -> [RowRecord; 1] {
+    [curve(Left, radius, turn, entry, exit)]
 }
 
 #[test]
@@ -120,37 +126,37 @@ fn symmetry(rt: HostRuntime) -> Result<(), Fail> {
 
 #[test]
 fn harmony(rt: HostRuntime) -> Result<(), Fail> {
-    let second = Piece::Right(700_000, 300_000, 91_652, 91_652);
+    let second = curve(Right, 700_000, 300_000, 91_652, 91_652);
     on_c100(
         &rt,
-        &[Piece::Left(700_000, 300_000, 137_478, 137_478), second],
+        &[curve(Left, 700_000, 300_000, 137_478, 137_478), second],
         &[],
     )?;
     on_c100(
         &rt,
-        &[Piece::Left(700_000, 300_000, 137_479, 137_479), second],
+        &[curve(Left, 700_000, 300_000, 137_479, 137_479), second],
         &[(0, 2, 1), (0, 2, 2), (1, 5, 1)],
     )?;
     // the other way round, and none over a straight
-    let first = Piece::Left(700_000, 300_000, 91_652, 91_652);
+    let first = curve(Left, 700_000, 300_000, 91_652, 91_652);
     on_c100(
         &rt,
-        &[first, Piece::Right(700_000, 300_000, 137_479, 137_479)],
+        &[first, curve(Right, 700_000, 300_000, 137_479, 137_479)],
         &[(1, 2, 1), (1, 2, 2), (1, 5, 1)],
     )?;
     on_c100(
         &rt,
         &[
             first,
-            Piece::Straight(139_000),
-            Piece::Right(700_000, 300_000, 137_479, 137_479),
+            straight(139_000),
+            curve(Right, 700_000, 300_000, 137_479, 137_479),
         ],
         &[(2, 2, 1), (2, 2, 2)],
     )?;
     // a neighbour that calls for no clothoids is in harmony with anything
     on_c100(
         &rt,
-        &[first, Piece::Right(5_000_000, 300_000, 0, 0)],
+        &[first, curve(Right, 5_000_000, 300_000, 0, 0)],
         &[(1, 8, 1)],
     )
 }
@@ -173,43 +179,38 @@ fn least_radii(rt: HostRuntime) -> Result<(), Fail> {
 
 #[test]
 fn consecutive_radii(rt: HostRuntime) -> Result<(), Fail> {
-    let wide = Piece::Left(1_000_000, 300_000, 111_112, 111_112);
+    let wide = curve(Left, 1_000_000, 300_000, 111_112, 111_112);
     gives(
         &rt,
         Class::M,
         100,
-        &[wide, Piece::Right(462_997, 300_000, 74_539, 74_539)],
+        &[wide, curve(Right, 462_997, 300_000, 74_539, 74_539)],
         &[],
     )?;
     gives(
         &rt,
         Class::M,
         100,
-        &[wide, Piece::Right(462_996, 300_000, 74_539, 74_539)],
+        &[wide, curve(Right, 462_996, 300_000, 74_539, 74_539)],
         &[(1, 8, 1)],
     )?;
     // class C in the return sense too, each on its curve
     on_c100(
         &rt,
-        &[wide, Piece::Right(462_997, 300_000, 74_539, 74_539)],
+        &[wide, curve(Right, 462_997, 300_000, 74_539, 74_539)],
         &[(0, 8, 2)],
     )?;
     // up to the limited length the table judges, beyond it the least radius after a run
-    let tight = Piece::Right(462_996, 300_000, 74_539, 74_539);
+    let tight = curve(Right, 462_996, 300_000, 74_539, 74_539);
     on_c100(
         &rt,
-        &[wide, Piece::Straight(400_000), tight],
+        &[wide, straight(400_000), tight],
         &[(0, 8, 2), (2, 8, 1)],
     )?;
-    on_c100(&rt, &[wide, Piece::Straight(400_001), tight], &[(2, 8, 1)])?;
+    on_c100(&rt, &[wide, straight(400_001), tight], &[(2, 8, 1)])?;
     on_c100(
         &rt,
-        &[
-            wide,
-            Piece::Straight(200_001),
-            Piece::Straight(200_000),
-            tight,
-        ],
+        &[wide, straight(200_001), straight(200_000), tight],
         &[(3, 8, 1)],
     )
 }
@@ -224,44 +225,34 @@ fn small_turns(rt: HostRuntime) -> Result<(), Fail> {
 
 #[test]
 fn short_runs(rt: HostRuntime) -> Result<(), Fail> {
-    let left = Piece::Left(700_000, 300_000, 91_652, 91_652);
-    let right = Piece::Right(700_000, 300_000, 91_652, 91_652);
-    on_c100(&rt, &[left, Piece::Straight(139_000), right], &[])?;
-    on_c100(&rt, &[left, Piece::Straight(138_999), right], &[(1, 10, 0)])?;
-    on_c100(&rt, &[left, Piece::Straight(278_000), left], &[])?;
-    on_c100(&rt, &[left, Piece::Straight(277_999), left], &[(1, 10, 0)])?;
+    let left = curve(Left, 700_000, 300_000, 91_652, 91_652);
+    let right = curve(Right, 700_000, 300_000, 91_652, 91_652);
+    on_c100(&rt, &[left, straight(139_000), right], &[])?;
+    on_c100(&rt, &[left, straight(138_999), right], &[(1, 10, 0)])?;
+    on_c100(&rt, &[left, straight(278_000), left], &[])?;
+    on_c100(&rt, &[left, straight(277_999), left], &[(1, 10, 0)])?;
     // neighbouring straights are one run, named by its first row
     on_c100(
         &rt,
-        &[
-            left,
-            Piece::Straight(100_000),
-            Piece::Straight(39_000),
-            right,
-        ],
+        &[left, straight(100_000), straight(39_000), right],
         &[],
     )?;
     on_c100(
         &rt,
-        &[
-            left,
-            Piece::Straight(100_000),
-            Piece::Straight(38_999),
-            right,
-        ],
+        &[left, straight(100_000), straight(38_999), right],
         &[(1, 10, 0)],
     )?;
     // a run at an end of the sheet has no curve on both sides
-    on_c100(&rt, &[Piece::Straight(1), left, Piece::Straight(1)], &[])
+    on_c100(&rt, &[straight(1), left, straight(1)], &[])
 }
 
 #[test]
 fn long_runs(rt: HostRuntime) -> Result<(), Fail> {
-    on_c100(&rt, &[Piece::Straight(1_670_000)], &[])?;
-    on_c100(&rt, &[Piece::Straight(1_670_001)], &[(0, 11, 0)])?;
+    on_c100(&rt, &[straight(1_670_000)], &[])?;
+    on_c100(&rt, &[straight(1_670_001)], &[(0, 11, 0)])?;
     on_c100(
         &rt,
-        &[Piece::Straight(1_000_000), Piece::Straight(670_001)],
+        &[straight(1_000_000), straight(670_001)],
         &[(0, 11, 0)],
     )
 }

@@ -3,6 +3,12 @@ use Rattle.std.specs.Prelude.{◌≡◌, ℕ, zero, suc, ◌-◌, ◌*◌, ◌^�
 use Rattle.superelevation.specs.declared.group.Group.{Group}
 use Rattle.superelevation.specs.declared.group.Group.TheVariants.{One, Two, Three}
 
+-- The number that the Norma counts a group by.
+abbrev pub group_number : Group → ℕ
+group_number One = 1
+group_number Two = 2
+group_number Three = 3
+
 -- The largest superelevation of a group.
 abbrev pub top_of : Group → ℕ
 top_of One = 800

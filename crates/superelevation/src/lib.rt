@@ -20,10 +20,7 @@ fn steps_passed(radii: &[u32], radius: u32) -> usize
     requires { Increasing radii.now }
     ensures { Passed radii.now radius result }
 {
-    match radii.binary_search(&radius) {
-        Ok(at) => at + 1,
-        Err(next) => next,
-    }
+    radii.partition_point(|step| *step <= radius)
 }
 
 // The superelevation of a group at a radius: one number, the table's.

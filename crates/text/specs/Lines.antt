@@ -1,11 +1,16 @@
 -- The line that is being read.
-use Rattle.std.specs.Prelude.{◌≡◌, ℕ, ◌+◌, ◌<◌, ◌≤◌, Bool, false, List, ◌++◌, length, MatchBool, ◌≢◌, slice_index}
+use Rattle.std.specs.Prelude.{◌≡◌, ℕ, ◌+◌, ◌<◌, ◌≤◌, Some, None, Option, List, ◌++◌, length, ◌≢◌, slice_index}
+
+-- a line's front is within 16,384 bytes; None stands for a line that is too long
+abbrev pub WithinLongest : Option (List ℕ) → Type 0
+WithinLongest None = Unit {0}
+WithinLongest (Some front) = length front ≤ 16_384
 
 -- a part is added where the line stays within 16,384 bytes; past that the line is too long, and nothing more is kept
-abbrev pub Grown : Bool → List ℕ → List ℕ → Bool → List ℕ → Type 0
-Grown over kept part over' kept' =
-    MatchBool over' ((kept' ≡ kept) × (over ≡ false → 16_384 < length kept + length part))
-    ((over ≡ false) × (length kept + length part ≤ 16_384) × (kept' ≡ kept ++ part))
+abbrev pub Grown : Option (List ℕ) → List ℕ → Option (List ℕ) → Type 0
+Grown None part after = after ≡ None
+Grown (Some front) part None = 16_384 < length front + length part
+Grown (Some front) part (Some front') = (length front + length part ≤ 16_384) × (front' ≡ front ++ part)
 
 abbrev pub NoNewline : List ℕ → Type 0
 NoNewline bytes = (k : ℕ) → k < length bytes → slice_index bytes k ≢ 10

@@ -1,76 +1,83 @@
 // The line that is being read.
-ghost use Rattle.std.specs.Prelude.{◌≡◌, ◌≤◌, true, false, [], ◌∷◌, ◌++◌, if◌then◌else◌, vec_len, MatchOption, OnOk, ◌==◌};
+ghost use Rattle.std.specs.Prelude.{◌≡◌, ◌≤◌, None, Some, [], ◌∷◌, ◌++◌, length, Decides, MatchOption, IfSome, OnOk};
 ghost use Rattle.text.specs.Lines.{Grown, NoNewline};
 
 use std::alloc::{AllocError, Global};
+use std::marker::Model;
 
 // The bytes before the first newline, and those after it, if there is one.
 pub fn split_line(bytes: &[u8]) -> Option<(&[u8], &[u8])>
     ensures { MatchOption result (NoNewline bytes.now) (λ p. (bytes.now ≡ p.0.now ++ (10 ∷ p.1.now)) × NoNewline p.0.now) }
 {
-    for (i, b) in bytes.iter().enumerate() {
-        if *b == b'\n' {
-            return Some((&bytes[0..i], &bytes[i + 1..]));
-        }
-    }
-    None
+    let newline = bytes.iter().position(|b| *b == b'\n')?;
+    Some((&bytes[..newline], &bytes[newline + 1..]))
 }
 
 // The longest line that is read, in bytes.
 pub const LONGEST: usize = 16_384;
 
-// The front of a line, up to the longest that is read.
+// The front of a line, up to the longest that is read; `None` where more came.
 #[derive(Drop)]
 pub struct Pending {
-    pub bytes: Vec<u8>,
-    // more came than is kept
-    pub too_long: bool,
-    ghost bounded: { vec_len bytes ≤ 16_384 },
+    heap: Global,
+    front: Option<Vec<u8>>,
+}
+
+impl Model for Pending {
+    ghost use Rattle.std.specs.Prelude.{ℕ, List, Option, vec_items};
+    ghost use Rattle.std.specs.Option.{option_map};
+    ghost use Rattle.text.specs.Lines.{WithinLongest};
+
+    ghost Value = { Option (List ℕ) };
+
+    ghost view = { λ p. option_map vec_items p.front };
+
+    ghost invariant = { λ p. WithinLongest (option_map vec_items p.front) };
 }
 
 impl Pending {
     pub fn new(heap: Global) -> Pending
-        ensures { (result.bytes.items ≡ []) × (result.too_long ≡ false) }
+        ensures { result ≡ Some [] }
     {
         Pending {
-            bytes: Vec::new(heap),
-            too_long: false,
+            heap,
+            front: Some(Vec::new(heap)),
         }
     }
 
     // Adds what came next of the line.
     pub fn add(&mut self, part: &[u8]) -> Result<(), AllocError>
-        ensures { OnOk result (Grown self.old.too_long self.old.bytes.items part.now self.new.too_long self.new.bytes.items) }
+        ensures { OnOk result (Grown self.old part.now self.new) }
     {
-        if self.too_long || part.len() > LONGEST - self.bytes.len() {
-            self.too_long = true;
+        let Some(front) = &mut self.front else {
+            return Ok(());
+        };
+        if part.len() > LONGEST - front.len() {
+            self.front = None;
             return Ok(());
         }
-        self.bytes.extend_from_slice(part)
+        front.extend_from_slice(part)
     }
 
     // Whether nothing of the line has come.
     pub fn is_empty(&self) -> bool
-        ensures { result ≡ (if self.now.too_long then false else (vec_len self.now.bytes == 0)) }
+        ensures { Decides result (self.now ≡ Some []) }
     {
-        !self.too_long && self.bytes.is_empty()
+        self.front.as_ref().is_some_and(|front| front.is_empty())
     }
 
     // The line, unless it is too long.
     pub fn line(&self) -> Option<&[u8]>
-        ensures { MatchOption result (self.now.too_long ≡ true) (λ line. (self.now.too_long ≡ false) × (line.now ≡ self.now.bytes.items)) }
+        ensures line { MatchOption result (self.now ≡ None) (λ line. self.now ≡ Some line.now) }
+        ensures within { IfSome result (λ line. length line.now ≤ 16_384) }
     {
-        if self.too_long {
-            return None;
-        }
-        Some(self.bytes.as_slice())
+        self.front.as_deref()
     }
 
     // Begins the next line.
     pub fn clear(&mut self)
-        ensures { (self.new.bytes.items ≡ []) × (self.new.too_long ≡ false) }
+        ensures { self.new ≡ Some [] }
     {
-        self.bytes.clear();
-        self.too_long = false;
+        self.front.get_or_insert(Vec::new(self.heap)).clear();
     }
 }

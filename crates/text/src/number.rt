@@ -1,32 +1,18 @@
 // A number as it stands in a line: decimal digits and no sign, leading zeros allowed.
-ghost use Rattle.std.specs.Prelude.{◌-◌, ◌^◌, min, MatchBool};
+ghost use Rattle.std.specs.Prelude.{◌-◌, ◌^◌, min, Decides};
 ghost use Rattle.std.specs.Option.{SomeIff};
 ghost use Rattle.std.specs.Str.Parse.{IsNumeral, digits_value};
 
 // Whether the word is digits and nothing else, one at least.
 fn is_numeral(word: &str) -> bool
-    ensures { MatchBool result (IsNumeral 10 word.now) (IsNumeral 10 word.now → ⊥) }
+    ensures { Decides result (IsNumeral 10 word.now) }
 {
-    if word.is_empty() {
-        return false;
-    }
-    for b in word.as_bytes() {
-        if !b.is_ascii_digit() {
-            return false;
-        }
-    }
-    true
+    !word.is_empty() && word.bytes().all(|b| b.is_ascii_digit())
 }
 
 // The decimal value of a numeral, where one beyond 32 bits counts as the greatest; of any other word `None`.
 pub fn number(word: &str) -> Option<u32>
     ensures { SomeIff result (IsNumeral 10 word.now) (min (digits_value 10 word.now) (2 ^ 32 - 1)) }
 {
-    if !is_numeral(word) {
-        return None;
-    }
-    match word.parse::<u32>() {
-        Ok(n) => Some(n),
-        Err(_) => Some(u32::MAX),
-    }
+    is_numeral(word).then(|| word.parse().unwrap_or(u32::MAX))
 }

@@ -3,17 +3,17 @@ ghost use Rattle.std.specs.Prelude.{◌≤◌, length, take};
 ghost use Rattle.text.specs.Words.{Words};
 
 // Puts the words of the line, or the first of them where there are more than `words` holds, to the front of `words`, and says how many they are.
+// A count and not the front itself: if the front were lent out as a `&`, no clause on what `words` ends as could be proved yet.
 pub fn words_of<'a>(line: &'a str, words: &mut [&'a str]) -> usize
     ensures within { result ≤ length words.new }
     ensures front { Words (length words.new) line.now (take result words.new) }
 {
-    let mut count = 0;
-    for word in line.split_whitespace() {
-        if count == words.len() {
+    let mut left = line.split_whitespace();
+    for (count, place) in words.iter_mut().enumerate() {
+        let Some(word) = left.next() else {
             return count;
-        }
-        words[count] = word;
-        count += 1;
+        };
+        *place = word;
     }
-    count
+    words.len()
 }

@@ -11,6 +11,7 @@ use norma::fifth::FifthOfTurnLimit;
 use norma::shift::ShiftLimit;
 use norma::transition::TransitionLimit;
 use road::class::Class;
+use road::design::RoadDesign;
 use road::jerk::JerkChoice;
 use road::refusal::Refusal;
 use road::road::Road;
@@ -19,32 +20,37 @@ use std::test::Fail;
 
 // A place on C-100 with one lane of 3.5 m turning and the usual J.
 pub(crate) fn example_place(radius: u32, turn: u32) -> Result<Place, Refusal> {
-    let road = Road::open(Class::C, 100, 3_500, 1, JerkChoice::Usual)?;
+    let road = Road::open(RoadDesign {
+        class: Class::C,
+        speed: 100,
+        edge: 3_500,
+        lanes: 1,
+        choice: JerkChoice::Usual,
+    })?;
     Place::new(&road, radius, turn)
 }
 
-fn refused(radius: u32, turn: u32) -> (u32, usize) {
-    match example_place(radius, turn) {
-        Ok(_) => (0, 0),
-        Err(refusal) => (refusal.number(), refusal.row()),
-    }
+// The number and the row of the refusal of a place there, if it is refused.
+fn refused(radius: u32, turn: u32) -> Option<(u32, usize)> {
+    let refusal = example_place(radius, turn).err()?;
+    Some((refusal.number(), refusal.row()))
 }
 
 #[test]
 fn places(rt: HostRuntime) {
     let table = [
-        (999, 1, 4),
-        (1_000, 1, 0),
-        (10_000_000, 2_000_000, 0),
-        (10_000_001, 1, 4),
-        (0, 0, 4),
-        (u32::MAX, u32::MAX, 4),
-        (1_000, 0, 5),
-        (1_000, 2_000_001, 5),
-        (1_000, u32::MAX, 5),
+        (999, 1, Some(4)),
+        (1_000, 1, None),
+        (10_000_000, 2_000_000, None),
+        (10_000_001, 1, Some(4)),
+        (0, 0, Some(4)),
+        (u32::MAX, u32::MAX, Some(4)),
+        (1_000, 0, Some(5)),
+        (1_000, 2_000_001, Some(5)),
+        (1_000, u32::MAX, Some(5)),
     ];
     for (radius, turn, number) in table {
-        assert_eq!(rt; refused(radius, turn), (number, 0));
+        assert_eq!(rt; refused(radius, turn), number.map(|number| (number, 0)));
     }
 }
 
@@ -99,7 +105,13 @@ fn extremes(rt: HostRuntime) -> Result<(), Fail> {
     assert_eq!(rt; tried(&rt, ComfortLimit, &tight), None);
     assert_eq!(rt; tried(&rt, COMPULSORY, &tight), None);
     assert_eq!(rt; tried(&rt, FifthOfTurnLimit, &tight), Some(1));
-    let slow = Road::open(Class::C, 40, 30_000, 1, JerkChoice::Top)?;
+    let slow = Road::open(RoadDesign {
+        class: Class::C,
+        speed: 40,
+        edge: 30_000,
+        lanes: 1,
+        choice: JerkChoice::Top,
+    })?;
     let banked = Place::new(&slow, 350_000, 300_000)?;
     assert_eq!(rt; tried(&rt, ComfortLimit, &banked), Some(0));
     assert_eq!(rt; tried(&rt, TransitionLimit, &banked), Some(300_000));

@@ -1,23 +1,22 @@
 // Opening roads.
 use road::class::Class;
+use road::design::RoadDesign;
 use road::jerk::JerkChoice;
 use road::refusal::Refusal;
 use road::road::Road;
-use superelevation::group::Group;
 
 // The group and the least radius of a road, or the number and the row of the refusal.
 fn opened(class: Class, speed: u32, edge: u32, lanes: u32) -> Result<(u32, u32), (u32, usize)> {
-    match Road::open(class, speed, edge, lanes, JerkChoice::Usual) {
-        Ok(road) => {
-            let group = match road.group {
-                Group::One => 1,
-                Group::Two => 2,
-                Group::Three => 3,
-            };
-            Ok((group, road.least_radius))
-        }
-        Err(refusal) => Err((refusal.number(), refusal.row())),
-    }
+    let choice = JerkChoice::Usual;
+    Road::open(RoadDesign {
+        class,
+        speed,
+        edge,
+        lanes,
+        choice,
+    })
+    .map(|road| (road.group.number(), road.least_radius))
+    .map_err(|refusal| (refusal.number(), refusal.row()))
 }
 
 const MOTORWAYS: [(u32, u32, u32); 7] = [
@@ -41,12 +40,11 @@ const OTHERS: [(u32, u32, u32); 7] = [
 ];
 
 fn expected(table: &[(u32, u32, u32)], speed: u32) -> Result<(u32, u32), (u32, usize)> {
-    for (v, group, least) in table {
-        if *v == speed {
-            return Ok((*group, *least));
-        }
-    }
-    Err((1, 0))
+    table
+        .iter()
+        .find(|line| line.0 == speed)
+        .map(|line| (line.1, line.2))
+        .ok_or((1, 0))
 }
 
 #[test]
@@ -82,7 +80,13 @@ fn edges_and_lanes(rt: HostRuntime) {
 // The lane factor and J of a road.
 fn factors(speed: u32, lanes: u32, choice: JerkChoice) -> Result<(u32, u32), Refusal> {
     let class = if speed > 100 { Class::A } else { Class::C };
-    let road = Road::open(class, speed, 3_500, lanes, choice)?;
+    let road = Road::open(RoadDesign {
+        class,
+        speed,
+        edge: 3_500,
+        lanes,
+        choice,
+    })?;
     Ok((road.lane_factor, road.jerk))
 }
 

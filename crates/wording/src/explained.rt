@@ -1,6 +1,6 @@
 // A finding with what it speaks of, to be shown in plain words.
 use crate::reasons::reason_of;
-use findings::finding::{Finding, Side, Weight};
+use findings::finding::Finding;
 use road::road::Road;
 use rows::record::RowRecord;
 use std::fmt;
@@ -14,28 +14,18 @@ pub struct Explained<'a> {
     pub least: Option<u32>,
 }
 
-fn side_word(side: Side) -> &'static str {
-    match side {
-        Side::Whole => "whole",
-        Side::Entry => "entry",
-        Side::Exit => "exit",
-    }
-}
-
-fn weight_word(weight: Weight) -> &'static str {
-    match weight {
-        Weight::Breach => "breach",
-        Weight::Advice => "advice",
-    }
-}
-
 impl fmt::Display for Explained<'_> {
     fn fmt<W: fmt::Write>(&self, f: &mut fmt::Formatter<W>) -> fmt::Result {
-        let row = self.finding.row;
-        let rule = self.finding.rule.number();
-        let side = side_word(self.finding.side);
-        let weight = weight_word(self.finding.weight);
-        let reason = reason_of(self);
-        write!(f, "finding {row} {rule} {side} {weight}: {reason}")
+        let Finding {
+            row,
+            rule,
+            side,
+            weight,
+        } = self.finding;
+        write!(f, "finding {row} {rule} {side} {weight}: ")?;
+        match reason_of(self) {
+            Some(reason) => write!(f, "{reason}"),
+            None => f.write_str("the row is not there"),
+        }
     }
 }

@@ -1,4 +1,6 @@
 // The curves beside a row, and the runs between.
+ghost use Rattle.std.specs.Iterator.{IsFinite};
+
 use rows::record::RowRecord;
 use rows::row::{Curve, Row};
 
@@ -13,72 +15,60 @@ pub(crate) struct Neighbour {
 
 // The row of that number, if there is one.
 pub(crate) fn row_at(rows: &[RowRecord], row: usize) -> Option<Row> {
-    if row >= rows.len() {
-        return None;
-    }
-    Some(rows[row].read())
+    rows.get(row).map(|record| record.read())
 }
 
 // The row before, if it is a curve.
 pub(crate) fn curve_right_before(rows: &[RowRecord], row: usize) -> Option<Neighbour> {
-    if row == 0 || row > rows.len() {
+    let before = row.checked_sub(1)?;
+    let Row::Curve(curve) = row_at(rows, before)? else {
         return None;
+    };
+    Some(Neighbour {
+        row: before,
+        curve,
+        run: 0,
+    })
+}
+
+// The first curve of the rows, in the order in which they come, each with its number.
+fn first_curve<'a, I: Iterator<Item = (usize, &'a RowRecord)> + Drop>(rows: I) -> Option<Neighbour>
+    requires can { I.can_next rows }
+    requires ends { IsFinite (I.remaining rows) }
+{
+    let mut run = 0u64;
+    for (row, record) in rows {
+        match record.read() {
+            Row::Straight(straight) => run = run.saturating_add(u64::from(straight.length)),
+            Row::Curve(curve) => return Some(Neighbour { row, curve, run }),
+        }
     }
-    match rows[row - 1].read() {
-        Row::Straight(_) => None,
-        Row::Curve(curve) => Some(Neighbour {
-            row: row - 1,
-            curve,
-            run: 0,
-        }),
-    }
+    None
 }
 
 // The last curve before a row.
 pub(crate) fn curve_before(rows: &[RowRecord], row: usize) -> Option<Neighbour> {
-    let mut run = 0u64;
-    let end = row.min(rows.len());
-    for at in (0..end).rev() {
-        match rows[at].read() {
-            Row::Straight(straight) => run = run.saturating_add(straight.length as u64),
-            Row::Curve(curve) => {
-                return Some(Neighbour {
-                    row: at,
-                    curve,
-                    run,
-                });
-            }
-        }
-    }
-    None
+    let before = &rows[..row.min(rows.len())];
+    first_curve(before.iter().enumerate().rev())
 }
 
 // The first curve after a row.
 pub(crate) fn curve_after(rows: &[RowRecord], row: usize) -> Option<Neighbour> {
-    let mut run = 0u64;
-    for at in row.saturating_add(1)..rows.len() {
-        match rows[at].read() {
-            Row::Straight(straight) => run = run.saturating_add(straight.length as u64),
-            Row::Curve(curve) => {
-                return Some(Neighbour {
-                    row: at,
-                    curve,
-                    run,
-                });
-            }
-        }
+    first_curve(rows.iter().enumerate().skip(row.saturating_add(1)))
+}
+
+// The length of a straight.
+fn straight_length(row: Row) -> Option<u64> {
+    match row {
+        Row::Straight(straight) => Some(u64::from(straight.length)),
+        Row::Curve(_) => None,
     }
-    None
 }
 
 // The length of the straights from a row on, up to the next curve or the end.
 pub(crate) fn run_from(rows: &[RowRecord], row: usize) -> u64 {
-    let mut run = 0u64;
-    for at in row..rows.len() {
-        match rows[at].read() {
-            Row::Straight(straight) => run = run.saturating_add(straight.length as u64),
-            Row::Curve(_) => return run,
-        }
-    }
-    run
+    rows.iter()
+        .skip(row)
+        .map_while(|record| straight_length(record.read()))
+        .fold(0, |run, length| run.saturating_add(length))
 }

@@ -1,13 +1,8 @@
 // Why a finding is given: what decides it, with its figures. Lengths and radii in mm, turns in ten-thousandths of a gon.
 use crate::neighbours::Neighbour;
 use radii::NextRadius;
+use rows::end::End;
 use rows::row::Curve;
-
-#[derive(Clone, Copy)]
-pub(crate) enum End {
-    Entry,
-    Exit,
-}
 
 // A clothoid of a curve.
 #[derive(Clone, Copy)]
@@ -27,8 +22,6 @@ pub(crate) struct Disagreement {
 
 #[derive(Clone, Copy)]
 pub(crate) enum Reason {
-    // the row is beyond the rows, or not of the kind that the rule speaks of
-    NotThere,
     Unadmitted {
         clothoid: Clothoid,
         least: Option<u32>,

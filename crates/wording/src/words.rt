@@ -1,38 +1,15 @@
 // Reasons in plain words.
 use crate::neighbours::Neighbour;
-use crate::reason::{Clothoid, Disagreement, End, Reason};
-use radii::NextRadius;
+use crate::reason::{Clothoid, Disagreement, Reason};
+use rows::end::End;
 use rows::row::Curve;
 use std::fmt;
-
-impl fmt::Display for End {
-    fn fmt<W: fmt::Write>(&self, f: &mut fmt::Formatter<W>) -> fmt::Result {
-        f.write_str(match self {
-            End::Entry => "entry",
-            End::Exit => "exit",
-        })
-    }
-}
 
 impl fmt::Display for Clothoid {
     fn fmt<W: fmt::Write>(&self, f: &mut fmt::Formatter<W>) -> fmt::Result {
         let end = self.end;
         let length = self.length;
         write!(f, "{end} clothoid of {length} mm")
-    }
-}
-
-// Shows the radii that may follow.
-#[derive(Clone, Copy)]
-struct Range(NextRadius);
-
-impl fmt::Display for Range {
-    fn fmt<W: fmt::Write>(&self, f: &mut fmt::Formatter<W>) -> fmt::Result {
-        let least = self.0.least;
-        match self.0.greatest {
-            Some(greatest) => write!(f, "{least} to {greatest} mm"),
-            None => write!(f, "at least {least} mm"),
-        }
     }
 }
 
@@ -110,13 +87,13 @@ fn write_disagreement<W: fmt::Write>(
     f: &mut fmt::Formatter<W>,
     disagreement: Disagreement,
 ) -> fmt::Result {
-    if let End::Exit = disagreement.end {
+    if disagreement.end == End::Exit {
         f.write_str("in the return sense ")?;
     }
     let radius = disagreement.radius;
     let other = disagreement.neighbour.curve.radius;
     let row = disagreement.neighbour.row;
-    let range = Range(disagreement.range);
+    let range = disagreement.range;
     write!(
         f,
         "the radius of {radius} mm after that of {other} mm in row {row} must be {range}"
@@ -161,7 +138,6 @@ fn write_short_run<W: fmt::Write>(
 impl fmt::Display for Reason {
     fn fmt<W: fmt::Write>(&self, f: &mut fmt::Formatter<W>) -> fmt::Result {
         match self {
-            Reason::NotThere => f.write_str("the row is not there"),
             Reason::Unadmitted { clothoid, least } => write_unadmitted(f, *clothoid, *least),
             Reason::TooLong { clothoid, least } => write_too_long(f, *clothoid, *least),
             Reason::Uncalled(clothoid) => write_uncalled(f, *clothoid),

@@ -5,6 +5,7 @@ use Rattle.superelevation.specs.Superelevation.{Superelevation}
 use Rattle.roots.specs.Roots.{Parameter}
 use Rattle.road.specs.declared.class.Class.TheVariants.{C}
 use Rattle.road.specs.declared.jerk.JerkChoice.TheVariants.{Usual}
+use Rattle.road.specs.declared.design.RoadDesign.{RoadDesign}
 use Rattle.road.specs.declared.road.Road.{Road}
 use Rattle.road.specs.Opening.{Holds}
 use Rattle.limits.specs.declared.place.Place.{Place}
@@ -14,8 +15,11 @@ use Rattle.norma.specs.Formulas.{comfort, transition, azimuth, shift, fifth_of_t
 use Rattle.label.specs.declared.Label.{Label}
 
 -- The example road: C-100, edge distance 3,500 mm, one lane turning, the usual J.
+abbrev pub example_design : RoadDesign
+example_design = record { class = C; speed = 100; edge = 3_500; lanes = 1; choice = Usual }
+
 abbrev pub Example : Road → Type 0
-Example road = Holds C 100 3_500 1 Usual road
+Example road = Holds example_design road
 
 -- A place on it with a turn of 30 gon.
 pub record ExamplePlace (radius : ℕ) (place : Place) : Type 0 where

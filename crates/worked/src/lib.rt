@@ -6,6 +6,7 @@ ghost use Rattle.worked.specs.Worked.{Worked, example_label};
 
 use label::Label;
 use road::class::Class;
+use road::design::RoadDesign;
 use road::jerk::JerkChoice;
 use road::refusal::Refusal;
 use road::road::Road;
@@ -15,6 +16,12 @@ pub fn worked_label() -> Result<Label, Refusal>
     ensures table { Worked }
     ensures value { result ≡ Ok example_label }
 {
-    let road = Road::open(Class::C, 100, 3_500, 1, JerkChoice::Usual)?;
+    let road = Road::open(RoadDesign {
+        class: Class::C,
+        speed: 100,
+        edge: 3_500,
+        lanes: 1,
+        choice: JerkChoice::Usual,
+    })?;
     Label::at(&road, 1_000_000, 300_000)
 }

@@ -10,4 +10,4 @@ pub loop-line-preserved : goal.loop-line-preserved
 loop-line-preserved g c =
     let line = c.in-Some.line.now in
     let done = c.loop-line.invariant.0 ++ line in
-    (done ++ (10 ∷ []), front_more c.args.chunk.now c.loop-line.invariant.0 c.loop-line.rest.now line c.in-Some.next.now c.loop-line.invariant.1 c.in-Some.ensures.0, inr ((done, refl), c.clear.ensures.1, c.clear.ensures.0))
+    (done ++ (10 ∷ []), front_more c.args.chunk.now c.loop-line.invariant.0 c.loop-line.rest.now line c.in-Some.next.now c.loop-line.invariant.1 c.in-Some.ensures.0, inr ((done, refl), c.clear.ensures))

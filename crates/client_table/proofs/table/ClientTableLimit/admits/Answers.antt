@@ -1,40 +1,25 @@
-use mathlib.Core.Bool.{true, false}
-use Prim.Native.Nat.{ℕ}
-use borrow.Author.Count.{below_more}
-use native.Mathlib.Omega.{arith}
-use Rattle.client_table.specs.Tables.{entry_at_lem, Allows, ByEntries}
-use Rattle.client_table.proofs.Whole.{is_table, allowed_by, refused_by}
+use Rattle.std.proofs.Common.{◌≡◌, ◌∙◌, sym, false, leb, rules, ◌/◌, length as count}
+use borrow.Author.Tests.{tests}
+use Rattle.std.proofs.lemmas.Bool.{cond-true, le-leb}
+use Rattle.std.proofs.lemmas.Iterator.{YieldsList-from_slice}
+use Rattle.std.proofs.lemmas.Iterator.Search.{all_from_yields_List}
+use Rattle.client_table.specs.Tables.{entry_at_lem, allows, each_allows, table}
+use Rattle.client_table.proofs.Chunks.{all_allow}
+use Rattle.client_table.proofs.Whole.{by_table}
 use Rattle.client_table.proofs.table.ClientTableLimit.admits.Goals as goal
 
-pub returns-then-length-gt-LONGEST : goal.returns-then-length-gt-LONGEST
-returns-then-length-gt-LONGEST c =
-    let by : ByEntries c.args.self.now.bytes.now c.args.place.now c.args.length false = record {
-      capped = λ never. elim never [ ];
-      holds = λ never. elim never [ ];
-      suffices = λ top all. absurd (omega arith);
-    } in
-    record { set = is_table _ _ _ false by; entries = by }
+is_table : (c : goal.After-all) → c.all.result ≡ table c.args.self.now.bytes.now c.args.place.now c.args.length
+is_table c =
+    let radius = c.args.place.now.radius in
+    let length = c.args.length in
+    let bytes = c.args.self.now.bytes.now in
+    let asked = all_from_yields_List (λ chunk. allows (entry_at_lem chunk 0) radius length) _ _ c.all.result c.all.ensures.ran (YieldsList-from_slice c.as_chunks.result.0.now cc) (λ x b q k. search (rules, tests)) in
+    let each : c.all.result ≡ each_allows bytes (count bytes / 12) radius length =
+    asked ∙ rw c.as_chunks.ensures.front (all_allow bytes (count bytes / 12) radius length) in
+    each ∙ sym (cond-true (leb length 2_000_000) (each_allows bytes (count bytes / 12) radius length) false (le-leb length 2_000_000 c.if-length-le-LONGEST.true))
 
-pub returns-then-not-entry_allows : goal.returns-then-not-entry_allows
-returns-then-not-entry_allows c =
-    let index = c.loop-index.index in
-    let by : ByEntries c.args.self.now.bytes.now c.args.place.now c.args.length false = record {
-      capped = λ never. elim never [ ];
-      holds = λ never. elim never [ ];
-      suffices = λ top all. refused_by _ _ _ _ c.entry_at.ensures c.if-not-entry_allows.ensures (all index (omega arith));
-    } in
-    record { set = is_table _ _ _ false by; entries = by }
+pub returns-then-length-le-LONGEST-clause-set : goal.returns-then-length-le-LONGEST-clause-set
+returns-then-length-le-LONGEST-clause-set c = is_table c
 
-pub loop-index-preserved : goal.loop-index-preserved
-loop-index-preserved c =
-    let Allowed : ℕ → Type 0 = λ k. Allows (entry_at_lem c.args.self.now.bytes.now k) c.args.place.now.radius c.args.length in
-    below_more Allowed c.loop-index.index c.loop-index.invariant (allowed_by _ _ _ _ c.entry_at.ensures c.if-not-entry_allows.ensures)
-
-pub returns : goal.returns
-returns c =
-    let by : ByEntries c.args.self.now.bytes.now c.args.place.now c.args.length true = record {
-      capped = λ _. omega arith;
-      holds = λ _ index whole. c.loop-index.invariant index (omega arith);
-      suffices = λ top all. tt;
-    } in
-    record { set = is_table _ _ _ true by; entries = by }
+pub returns-then-length-le-LONGEST-clause-entries : goal.returns-then-length-le-LONGEST-clause-entries
+returns-then-length-le-LONGEST-clause-entries c = by_table _ _ _ _ (is_table c)

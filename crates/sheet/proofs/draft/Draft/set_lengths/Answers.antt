@@ -1,20 +1,34 @@
-use Rattle.std.proofs.Common.{arith, rules}
-use Rattle.sheet.proofs.Keeps.{halted, relengthened, no_curve}
+use Rattle.std.proofs.Common.{◌≡◌, ◌≤◌, length, refl, sym, ap, ◌∙◌, arith, rules, ltb-false}
+use Rattle.std.proofs.lemmas.List.{length-take-le}
+use Rattle.rows.specs.Reading.{row_of}
+use Rattle.std.proofs.lemmas.Result.{err_from_is_err_and}
+use Rattle.sheet.proofs.Keeps.{halted, found_at, relengthened, no_curve}
 use Rattle.sheet.proofs.draft.Draft.set_lengths.Goals as goal
 
-pub returns-then-entry-gt-LONGEST_CLOTHOID : goal.returns-then-entry-gt-LONGEST_CLOTHOID
-returns-then-entry-gt-LONGEST_CLOTHOID c = halted _ _ 6 _ (search rules)
+pub returns-then-entry-gt-LONGEST : goal.returns-then-entry-gt-LONGEST
+returns-then-entry-gt-LONGEST c = halted _ _ 6 _ (search rules)
 
-pub returns-then-rows-self : goal.returns-then-rows-self
-returns-then-rows-self c = halted _ _ 7 _ (search rules)
-
-pub returns-then-row-self : goal.returns-then-row-self
-returns-then-row-self c = halted _ _ 8 _ (search rules)
+pub returns-in_err-records : goal.returns-in_err-records
+returns-in_err-records c =
+    let p = err_from_is_err_and c.from_residual.result c.from_residual.ensures.1 in
+    rw (p.1, p.2, c.in_err-records.ensures.1) (halted _ _ 7 _ (search rules))
 
 pub returns-in_default : goal.returns-in_default
-returns-in_default c = no_curve _ _ _ c.args.rows.now _ _ _ c.in_default.field-0 _ (omega arith) (omega arith) (omega arith) (omega arith) c.in_default.ensures
+returns-in_default c =
+    let fits : c.args.self.now.count ≤ length c.args.rows.now = c.in_ok-records.ensures.0 in
+    let long : length c.in_ok-records.field-0.now ≡ c.args.self.now.count = ap length c.in_ok-records.ensures.1 ∙ length-take-le _ _ fits in
+    let beyond : length c.in_ok-records.field-0.now ≤ c.args.row = ltb-false _ _ (sym c.in_default.ensures.lookup.0) in
+    let past : c.args.self.now.count ≤ c.args.row = omega arith in
+    halted _ _ 8 _ (search rules)
+
+pub returns-in_default-read : goal.returns-in_default-read
+returns-in_default-read c =
+    let fits : c.args.self.now.count ≤ length c.args.rows.now = c.in_ok-records.ensures.0 in
+    let at = found_at _ _ _ _ _ c.in_ok-records.ensures.1 fits c.in-Some.ensures.lookup.3.0 c.in-Some.ensures.lookup.1 in
+    no_curve _ _ _ c.args.rows.now _ _ _ c.in_default-read.field-0 _ (omega arith) (omega arith) fits at.0 (c.in_default-read.ensures ∙ ap row_of at.1)
 
 pub returns : goal.returns
 returns c =
-    relengthened _ _ _ _ _ _ _ c.in-Curve.curve c.with_lengths.result c.record.result _ (omega arith) (omega arith) (omega arith) (omega arith)
-    c.in-Curve.ensures c.with_lengths.ensures (search rules) (search rules)
+    let fits : c.args.self.now.count ≤ length c.args.rows.now = c.in_ok-records.ensures.0 in
+    let at = found_at _ _ _ _ _ c.in_ok-records.ensures.1 fits c.in-Some.ensures.lookup.3.0 c.in-Some.ensures.lookup.1 in
+    relengthened _ _ _ _ _ _ _ c.in-Curve.curve _ (omega arith) (omega arith) fits at.0 (c.in-Curve.ensures ∙ ap row_of at.1) refl

@@ -1,0 +1,32 @@
+-- How mistakes are shown.
+use Rattle.std.specs.Prelude.{ℕ, cond, List, [], ◌++◌, length, take, Some, None, codes, Option, nat_lt}
+use Rattle.std.specs.Char.{is_control, encode_utf8}
+use Rattle.std.specs.Char.Escape.{escape_default}
+use Rattle.std.specs.List.{flat_map}
+use Rattle.std.specs.Str.{chars, encode_utf8_all}
+use Rattle.std.specs.Borrow.{Bor}
+use Rattle.std.specs.Fmt.{decimal}
+use Rattle.commands.specs.declared.mistake.Expected.{Expected}
+use Rattle.commands.specs.declared.mistake.Expected.TheVariants.{Command, Class, Number, JerkChoice, EndOfLine}
+
+-- what should have stood there, in plain words
+abbrev pub expected_text : Expected → List ℕ
+expected_text Command = codes "a command: road or label"
+expected_text Class = codes "a class: A, M or C"
+expected_text Number = codes "a number: digits only"
+expected_text JerkChoice = codes "usual or top"
+expected_text EndOfLine = codes "the end of the line"
+
+-- a character as it is shown: a control character as its escape
+abbrev pub shown_char : ℕ → List ℕ
+shown_char c = cond (is_control c) (encode_utf8_all (escape_default c)) (encode_utf8 c)
+
+-- a word as it is shown, or the first 40 characters of a longer one and two dots
+abbrev pub shown_word : List ℕ → List ℕ
+shown_word word = flat_map shown_char (take 40 (chars word)) ++ cond (nat_lt 40 (length (chars word))) (codes "..") []
+
+-- which word is wrong, and what should have stood there
+abbrev pub mistake_text : ℕ → Option (Bor (List ℕ)) → Expected → List ℕ
+mistake_text at None expected = codes "word " ++ (decimal at ++ (codes " is missing, expected " ++ expected_text expected))
+mistake_text at (Some word) expected =
+    codes "word " ++ (decimal at ++ (codes " is '" ++ (shown_word word.now ++ (codes "', expected " ++ expected_text expected))))

@@ -1,0 +1,114 @@
+// An alignment, and the findings of its check.
+ghost use Rattle.std.specs.Prelude.{◌≡◌, ◌≤◌, length, nat_le};
+
+use crate::finding::Finding;
+use crate::kind::Kind;
+use crate::kinds::KINDS;
+use crate::walk::{Context, Stretch, Walk};
+use limits::limit::Limit;
+use road::road::Road;
+use roll::{Roll, RollRefusal};
+use rows::record::RowRecord;
+
+// A road, the limit of its clothoids, and the rows of a sheet.
+#[derive(Drop)]
+pub(crate) struct Alignment<'a, L> {
+    pub(crate) road: &'a Road,
+    pub(crate) limit: &'a L,
+    pub(crate) rows: &'a [RowRecord],
+    ghost few: { length rows.now ≤ 4_000 },
+}
+
+impl Context {
+    ghost use Rattle.roll.specs.Edits.{SameLoan};
+    ghost use Rattle.findings.specs.Findings.{finding_of_lem};
+    ghost use Rattle.findings.specs.Reports.{Reported};
+    ghost use Rattle.findings.specs.Walk.{breaks, kinds, given, gathered, counted};
+
+    // How many findings the row has.
+    fn count(&self, road: &Road) -> usize
+        ensures value { result ≡ counted road.now self.now kinds }
+        ensures bound { result ≤ 16 }
+    {
+        KINDS
+            .iter()
+            .filter(|kind| self.breaks(road, **kind))
+            .count()
+    }
+
+    // The finding of a kind, if the row breaks its rule.
+    fn report_kind(
+        &self,
+        road: &Road,
+        place: usize,
+        kind: Kind,
+        findings: &mut Roll<'_, Finding>,
+    ) -> Result<(), RollRefusal>
+        ensures same { SameLoan findings.old findings.new }
+        ensures report { Reported findings.old findings.new (given (breaks road.now kind self.now) (finding_of_lem place kind)) result }
+    {
+        if self.breaks(road, kind) {
+            findings.push(kind.finding(place))
+        } else {
+            Ok(())
+        }
+    }
+
+    // The findings of the row.
+    fn report(
+        &self,
+        road: &Road,
+        place: usize,
+        findings: &mut Roll<'_, Finding>,
+    ) -> Result<(), RollRefusal>
+        ensures same { SameLoan findings.old findings.new }
+        ensures report { Reported findings.old findings.new (gathered road.now place self.now kinds) result }
+    {
+        for kind in KINDS {
+            self.report_kind(road, place, kind, findings)?;
+        }
+        Ok(())
+    }
+}
+
+impl<'a, L: Limit> Alignment<'a, L> {
+    ghost use Rattle.roll.specs.Edits.{SameLoan};
+    ghost use Rattle.findings.specs.Reports.{Reported};
+    ghost use Rattle.findings.specs.Alignments.{left, all_rows, all_findings};
+
+    fn walk(&self) -> Walk<'a, L>
+        ensures { left L.Limit.admitted result ≡ all_rows L.Limit.admitted self.now }
+    {
+        Walk {
+            road: self.road,
+            limit: self.limit,
+            rows: self.rows,
+            behind: Stretch::NOTHING,
+        }
+    }
+
+    // How many findings there are.
+    fn count(&self) -> usize
+        ensures { result ≡ length (all_findings L.Limit.admitted self.now) }
+    {
+        self.walk().map(|at| at.count(self.road)).sum()
+    }
+
+    // Whether the findings fit so many slots. A row has one finding of each kind at most: where so many fit, they are not counted.
+    pub(crate) fn has_room(&self, slots: usize) -> bool
+        ensures { result ≡ nat_le (length (all_findings L.Limit.admitted self.now)) slots }
+    {
+        KINDS.len() * self.rows.len() <= slots || self.count() <= slots
+    }
+
+    // Puts the findings into the roll, in the order of row, rule and side.
+    pub(crate) fn report(&self, findings: &mut Roll<'_, Finding>) -> Result<(), RollRefusal>
+        ensures same { SameLoan findings.old findings.new }
+        ensures report { Reported findings.old findings.new (all_findings L.Limit.admitted self.now) result }
+    {
+        for (place, at) in self.walk().enumerate() {
+            at.report(self.road, place, findings)?;
+        }
+        Ok(())
+    }
+}
