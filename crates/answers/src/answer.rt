@@ -26,6 +26,7 @@ impl fmt::Display for Length {
     }
 }
 
+// Apart from the road's type: no other line shows a road so.
 fn write_road<W: fmt::Write>(f: &mut fmt::Formatter<W>, road: &Road) -> fmt::Result {
     let class = road.class;
     let speed = road.speed;
@@ -37,6 +38,7 @@ fn write_road<W: fmt::Write>(f: &mut fmt::Formatter<W>, road: &Road) -> fmt::Res
     )
 }
 
+// Apart from the label's type: a curve's radius and turn, which begin the line, are not in it.
 fn write_label<W: fmt::Write>(f: &mut fmt::Formatter<W>, label: &Label) -> fmt::Result {
     let p = label.superelevation;
     let comfort = Length(label.comfort);

@@ -1,5 +1,6 @@
 // Why a command has no answer, and how that is shown.
-ghost use Rattle.std.specs.Prelude.{◌≡◌};
+ghost use Rattle.std.specs.Prelude.{◌≡◌, Some};
+ghost use Rattle.answers.specs.Shown.{failure_text};
 ghost use Rattle.answers.specs.declared.failure.Failure.TheVariants.{Refused};
 
 use road::refusal::Refusal;
@@ -25,6 +26,8 @@ impl From<Refusal> for Failure {
 }
 
 impl fmt::Display for Failure {
+    ghost output = { λ failure. Some (failure_text failure) };
+
     fn fmt<W: fmt::Write>(&self, f: &mut fmt::Formatter<W>) -> fmt::Result {
         match self {
             Failure::Refused(refusal) => {

@@ -26,7 +26,7 @@ pub enum ChosenLimit {
     Table(Vec<u8>),
 }
 
-// One of the Norma's limits, or a client's table.
+// One of the Norma's limits, or a client's table. No `&dyn Limit`: what such a limit admits cannot be stated yet.
 type OneLimit<'a> = Either<
     Either<ComfortLimit, TransitionLimit>,
     Either<Either<AzimuthLimit, ShiftLimit>, Either<FifthOfTurnLimit, ClientTable<'a>>>,

@@ -48,7 +48,7 @@ pub(crate) fn answer_all<R: Read + Drop>(rt: &HostRuntime, mut reader: R) -> any
             &mut session,
             &mut pending,
             &mut out,
-            &buffer.as_slice()[0..count],
+            &buffer.as_slice()[..count],
         )?;
         out.flush()?;
     }

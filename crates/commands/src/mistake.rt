@@ -55,7 +55,7 @@ impl fmt::Display for ParseError<'_> {
 
 impl Error for ParseError<'_> {}
 
-// Shows a character; a control character as an escape.
+// Shows a character; a control character as an escape, char by char: that an escape as a whole is so shown was tried, and not proved.
 fn write_shown<W: fmt::Write>(f: &mut fmt::Formatter<W>, c: char) -> fmt::Result
     ensures { WritesOnOk W.write_str_gives f.old result (shown_char c) f.new }
 {

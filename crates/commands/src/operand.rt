@@ -20,6 +20,7 @@ pub(crate) trait Operand: Sized {
 
     const EXPECTED: Expected;
 
+    // No `FromStr` beside it, which would state the same again.
     fn read(word: &str) -> Option<Self>
         ensures { MatchOption result (kind word.now → ⊥) (λ x. says word.now x) };
 

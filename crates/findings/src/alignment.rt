@@ -19,6 +19,7 @@ pub(crate) struct Alignment<'a, L> {
     ghost few: { length rows.now ≤ 4_000 },
 }
 
+// The road is handed to each method: a context is of one row, and the road is of all.
 impl Context {
     ghost use Rattle.roll.specs.Edits.{SameLoan};
     ghost use Rattle.findings.specs.Findings.{finding_of_lem};

@@ -122,8 +122,9 @@ impl Stretch {
     }
 }
 
+// The road is handed to each method: a context is of one row, and the road is of all.
 impl Context {
-    // One line for each kind, so that none is left out.
+    // One line for each kind of a curve, so that none is left out.
     fn curve_breaks(&self, road: &Road, kind: Kind, curve: Curve) -> bool
         ensures { result ≡ curve_breaks_lem road.now kind self.now curve }
     {

@@ -29,7 +29,7 @@ pub trait Limit {
         if !self.admits(place, LONGEST) {
             return None;
         }
-        // `high` is admitted, and nothing below `low` is. The turns are counted, and index nothing: how many there are is part of the promise.
+        // `high` is admitted, and nothing below `low` is. The turns are counted, and index nothing: so it is seen that it asks at most 22 questions.
         let mut low = 0;
         let mut high = LONGEST;
         for _asked in 0..HALVINGS {

@@ -78,7 +78,7 @@ pub fn next_radius(road: &Road, run: u64, radius: u32) -> NextRadius
     }
 }
 
-// The least radius that is wide enough for the curve's turn, where that is small.
+// The least radius that is wide enough for the curve's turn, where that is small. The test of it, in `findings`, needs no division.
 pub fn least_radius(curve: &Curve) -> u64
     ensures { Smallest (WideEnough curve.now.turn) result }
 {

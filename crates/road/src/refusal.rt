@@ -1,6 +1,7 @@
 // Every refusal of the library. Its number, and the row that it names, are defined in specs/Refusals.
-ghost use Rattle.std.specs.Prelude.{◌≡◌};
+ghost use Rattle.std.specs.Prelude.{◌≡◌, Some};
 ghost use Rattle.road.specs.Refusals.{number_of, row_of};
+ghost use Rattle.road.specs.Words.{reason_of};
 
 use std::error::Error;
 use std::fmt;
@@ -54,7 +55,7 @@ impl Refusal {
         }
     }
 
-    // The row that the refusal names, 0 where it names none.
+    // The row that the refusal names, 0 where it names none, as it is printed.
     pub fn row(&self) -> usize
         ensures { result ≡ row_of self.now }
     {
@@ -75,6 +76,8 @@ impl Refusal {
 
 // Shows the reason, without the number and the row.
 impl fmt::Display for Refusal {
+    ghost output = { λ refusal. Some (reason_of refusal) };
+
     fn fmt<W: fmt::Write>(&self, f: &mut fmt::Formatter<W>) -> fmt::Result {
         f.write_str(match self {
             Refusal::NoSuchRoad => {

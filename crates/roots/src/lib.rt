@@ -1,7 +1,7 @@
 // Exact square roots of whole numbers, and with them the parameter of a clothoid.
 #![tactic(auto)]
 
-ghost use Rattle.std.specs.Prelude.{◌+◌, ◌*◌, ◌^◌, ◌<◌, ◌≤◌};
+ghost use Rattle.std.specs.Prelude.{◌≡◌, ◌+◌, ◌*◌, ◌/◌, ◌^◌, ◌<◌, ◌≤◌};
 ghost use Rattle.roots.specs.Roots.{RootUp, Parameter};
 
 // Close to the root: with square = m · 4^(half - 1) and 1 <= m < 4 this is (m + 2) / 3 · 2^(half - 1), up to 3 percent off.
@@ -19,6 +19,7 @@ fn guess(square: u64) -> u64
 fn step(square: u64, from: u64) -> u64
     requires square { (0 < square) × (square < 2 ^ 56) }
     requires from { (0 < from) × (from < 2 ^ 60) }
+    ensures value { result ≡ (from + square / from) / 2 }
     ensures above { square < (result + 1) * (result + 1) }
     ensures range { (0 < result) × (result < 2 ^ 60) }
 {
@@ -35,9 +36,9 @@ fn root_down(square: u64) -> u64
         return square.isqrt();
     }
     // Two steps nearly always reach the root of a number below 2^45.
-    let mut root = step(square, step(square, guess(square))).min(4_294_967_295);
+    let mut root = step(square, step(square, guess(square))).min(u32::MAX as u64);
     while root * root > square {
-        root = (root + square / root) / 2;
+        root = step(square, root);
     }
     root
 }

@@ -26,10 +26,10 @@ where_holds_is : {P X : Type 0} (d : Dec P) (make : P → X) → IsProp P → (f
 where_holds_is (yes known) make prop fact = ap (λ f. Some (make f)) (prop fact known)
 where_holds_is (no never) make prop fact = absurd (never fact)
 
-straight_is : (length : ℕ) (fit : StraightInRange length) → Some (record { length = length; within = fit }) ≡ straight_of length
+pub straight_is : (length : ℕ) (fit : StraightInRange length) → Some (record { length = length; within = fit }) ≡ straight_of length
 straight_is length fit = where_holds_is _ _ (range_prop 1 20_000_000 length) fit
 
-curve_is : (sense : Sense) (radius turn entry exit : ℕ) (fit : CurveInRange radius turn entry exit) → Some (record { sense = sense; radius = radius; turn = turn; entry = entry; exit = exit; within = fit }) ≡ curve_of sense radius turn entry exit
+pub curve_is : (sense : Sense) (radius turn entry exit : ℕ) (fit : CurveInRange radius turn entry exit) → Some (record { sense = sense; radius = radius; turn = turn; entry = entry; exit = exit; within = fit }) ≡ curve_of sense radius turn entry exit
 curve_is sense radius turn entry exit fit = where_holds_is _ _ (curve_prop radius turn entry exit) fit
 
 pub blank_is : (fit : StraightInRange 1) → row.Straight (record { length = 1; within = fit }) ≡ blank_row

@@ -1,6 +1,7 @@
 // Making rows from numbers, reading a record as a row, and writing a row as a record.
 ghost use Rattle.std.specs.Prelude.{◌≡◌, MatchResult};
-ghost use Rattle.rows.specs.Reading.{blank_row, row_of, record_of};
+ghost use Rattle.std.specs.Result.{result_ok};
+ghost use Rattle.rows.specs.Reading.{straight_of, curve_of, blank_row, row_of, record_of};
 ghost use Rattle.rows.specs.Outside.{NoStraight, NoCurve, ReadAs};
 ghost use Rattle.rows.specs.declared.record.RowRecord.TheVariants as kept;
 ghost use Rattle.rows.specs.declared.row.Row.TheVariants as row;
@@ -15,9 +16,10 @@ use road::range::OutOfRange;
 impl Straight {
     // The straight of that length, if that is in range.
     pub fn new(length: u32) -> Result<Straight, OutOfRange>
-        ensures { MatchResult result (λ straight. straight.length ≡ length) (NoStraight length) }
+        ensures value { result_ok result ≡ straight_of length }
+        ensures which { MatchResult result (λ straight. straight.length ≡ length) (NoStraight length) }
     {
-        if length == 0 || length > LONGEST_STRAIGHT {
+        if !(1..=LONGEST_STRAIGHT).contains(&length) {
             return Err(OutOfRange::StraightLength);
         }
         Ok(Straight { length })
@@ -25,7 +27,7 @@ impl Straight {
 }
 
 impl Curve {
-    // The curve of those numbers, or the first of them that is outside its range. In a struct they would be a record again.
+    // The curve of those numbers, or the first of them that is outside its range. A struct of the five would be the record.
     pub fn new(
         sense: Sense,
         radius: u32,
@@ -33,7 +35,8 @@ impl Curve {
         entry: u32,
         exit: u32,
     ) -> Result<Curve, OutOfRange>
-        ensures { MatchResult result (λ curve. record_of (row.Curve curve) ≡ kept.Curve sense radius turn entry exit) (NoCurve radius turn entry exit) }
+        ensures value { result_ok result ≡ curve_of sense radius turn entry exit }
+        ensures which { MatchResult result (λ curve. record_of (row.Curve curve) ≡ kept.Curve sense radius turn entry exit) (NoCurve radius turn entry exit) }
     {
         check_curve(radius, turn)?;
         if entry > LONGEST_CLOTHOID || exit > LONGEST_CLOTHOID {

@@ -33,10 +33,7 @@ fn is_comment(bytes: &[u8]) -> bool
 fn without_mark(bytes: &[u8]) -> &[u8]
     ensures { Unmarked bytes.now result.now }
 {
-    match bytes {
-        [0xef, 0xbb, 0xbf, rest @ ..] => rest,
-        _ => bytes,
-    }
+    bytes.strip_prefix(b"\xef\xbb\xbf").unwrap_or(bytes)
 }
 
 impl Session {
@@ -51,7 +48,7 @@ impl Session {
     }
 
     // Says what is wrong with the line, and counts it.
-    // That `lines` stays is said here and by the two below: a struct without it would take the line's number as one more parameter.
+    // Here and below `lines` is said to stay: methods that could not change it would be handed the line's number instead.
     fn error<W: Write, D: Display + Drop>(&mut self, out: &mut W, what: D) -> io::Result<()>
         ensures wrong { Counted self.old.wrong self.new.wrong }
         ensures same { (self.new.lines ≡ self.old.lines) × (self.new.open.road ≡ self.old.open.road) }

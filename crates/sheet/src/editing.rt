@@ -73,13 +73,14 @@ impl Draft {
         if entry > LONGEST_CLOTHOID || exit > LONGEST_CLOTHOID {
             return Err(Refusal::HandLength { row });
         }
-        let Some(record) = self.records(rows, row)?.get(row) else {
-            return Err(Refusal::NoSuchPlace { row });
-        };
+        let record = self
+            .records(rows, row)?
+            .get(row)
+            .ok_or(Refusal::NoSuchPlace { row })?;
         let Row::Curve(curve) = record.read() else {
             return Err(Refusal::NotACurve { row });
         };
-        // Not `Curve { entry, exit, ..curve }`: a struct with a ghost field takes no `..`.
+        // Not `Row::Curve(Curve { entry, exit, ..curve })`: a struct with a ghost field takes no `..`.
         rows[row] = RowRecord::Curve {
             sense: curve.sense,
             radius: curve.radius,

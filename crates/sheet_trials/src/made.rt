@@ -72,7 +72,7 @@ fn append(draft: &mut Draft, rows: &mut [RowRecord], record: RowRecord) -> Resul
 }
 
 // The findings under the compulsory pile, each as its row, rule and side; the slots past the last are 0.
-// Rules and sides go by their numbers, as a finding is printed and as the rules are known.
+// Rules and sides go by their numbers, so that a line of a test's table stays short.
 pub(crate) fn found(
     class: Class,
     speed: u32,

@@ -46,11 +46,9 @@ fn steps(rt: HostRuntime) {
     for (group, count, top) in table {
         let radii = step_radii(group);
         assert_eq!(rt; radii.len(), count);
-        let mut p = top;
-        for radius in radii {
+        for (radius, p) in radii.iter().zip((1..=top).rev()) {
             assert_eq!(rt; superelevation(group, radius.saturating_sub(1)), p);
-            p = p.saturating_sub(1);
-            assert_eq!(rt; superelevation(group, *radius), p);
+            assert_eq!(rt; superelevation(group, *radius), p.saturating_sub(1));
         }
     }
 }

@@ -1,5 +1,4 @@
 // A finding with what it speaks of, to be shown in plain words.
-use crate::reasons::reason_of;
 use findings::finding::Finding;
 use road::road::Road;
 use rows::record::RowRecord;
@@ -23,7 +22,7 @@ impl fmt::Display for Explained<'_> {
             weight,
         } = self.finding;
         write!(f, "finding {row} {rule} {side} {weight}: ")?;
-        match reason_of(self) {
+        match self.reason() {
             Some(reason) => write!(f, "{reason}"),
             None => f.write_str("the row is not there"),
         }

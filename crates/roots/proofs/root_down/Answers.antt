@@ -1,9 +1,7 @@
 use Rattle.std.proofs.Common.{arith}
-use Rattle.roots.proofs.Newton.{above, falls, positive}
+use Rattle.roots.proofs.Newton.{falls}
 use Rattle.roots.proofs.root_down.Goals as goal
 
 pub loop-root-preserved : goal.loop-root-preserved
 loop-root-preserved c =
-    let square = c.args.square in
-    let root = c.loop-root.root in
-    (above square root (positive square root c.loop-root-test.true), omega (arith, falls square root c.loop-root-test.true))
+    (c.step-root.ensures.above, omega (arith, c.step-root.ensures.value, falls c.args.square c.loop-root.root c.loop-root-test.true))
