@@ -1,11 +1,61 @@
--- How a command without an answer is shown.
-use Rattle.std.specs.Prelude.{ℕ, List, ◌++◌, codes, decimal}
+-- How answers are shown, and commands without one.
+use Rattle.std.specs.Prelude.{ℕ, List, [], ◌∷◌, ◌++◌, Option, Some, None, codes, decimal}
+use Rattle.superelevation.specs.Superelevation.{group_number}
+use Rattle.road.specs.declared.road.Road.{Road}
+use Rattle.road.specs.Words.{class_word}
+use Rattle.label.specs.declared.Label.{Label}
+use Rattle.answers.specs.declared.answer.Answer.{Answer}
+use Rattle.answers.specs.declared.answer.Answer.TheVariants.{Opened, Labelled}
 use Rattle.road.specs.Refusals.{number_of, row_of}
 use Rattle.road.specs.Words.{reason_of}
 use Rattle.answers.specs.declared.failure.Failure.{Failure}
 use Rattle.answers.specs.declared.failure.Failure.TheVariants.{Refused, NoRoad}
 
+-- Texts one after another.
+abbrev pub joined : List (List ℕ) → List ℕ
+joined [] = []
+joined (text ∷ []) = text
+joined (text ∷ next ∷ texts) = text ++ joined (next ∷ texts)
+
 -- A refusal is shown by its number, the row that it names, and its reason.
 abbrev pub failure_text : Failure → List ℕ
-failure_text (Refused refusal) = codes "refused " ++ decimal (number_of refusal) ++ codes " " ++ decimal (row_of refusal) ++ codes ": " ++ reason_of refusal
+failure_text (Refused refusal) =
+    joined (codes "refused " ∷ decimal (number_of refusal) ∷ codes " " ∷ decimal (row_of refusal) ∷ codes ": " ∷ reason_of refusal ∷ [])
 failure_text NoRoad = codes "word 1 is 'label', and no road is open: begin with road CLASS SPEED B LANES usual|top"
+
+-- A length, or that there is none.
+abbrev pub length_text : Option ℕ → List ℕ
+length_text (Some length) = decimal length
+length_text None = codes "none"
+
+abbrev pub road_text : Road → List ℕ
+road_text road =
+    joined
+    (
+    codes "opened " ∷ class_word road.class
+    ∷ codes "-" ∷ decimal road.speed
+    ∷ codes " group " ∷ decimal (group_number road.group)
+    ∷ codes " least radius " ∷ decimal road.least_radius
+    ∷ []
+    )
+
+abbrev pub label_text : (radius turn : ℕ) → Label → List ℕ
+label_text radius turn label =
+    joined
+    (
+    codes "label " ∷ decimal radius
+    ∷ codes " " ∷ decimal turn
+    ∷ codes " p " ∷ decimal label.superelevation
+    ∷ codes " comfort " ∷ length_text label.comfort
+    ∷ codes " transition " ∷ length_text label.transition
+    ∷ codes " azimuth " ∷ length_text label.azimuth
+    ∷ codes " shift " ∷ length_text label.shift
+    ∷ codes " fifth " ∷ length_text label.fifth
+    ∷ codes " least " ∷ length_text label.least
+    ∷ codes " A " ∷ length_text label.parameter
+    ∷ []
+    )
+
+abbrev pub answer_text : Answer → List ℕ
+answer_text (Opened road) = road_text road
+answer_text (Labelled radius turn label) = label_text radius turn label

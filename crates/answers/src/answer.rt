@@ -1,4 +1,8 @@
 // What a command answers, and how it is shown.
+ghost use Rattle.std.specs.Prelude.{Some};
+ghost use Rattle.std.specs.Fmt.{WritesOnOk};
+ghost use Rattle.answers.specs.Shown.{length_text, road_text, label_text, answer_text};
+
 use label::Label;
 use road::road::Road;
 use std::fmt;
@@ -18,6 +22,8 @@ pub enum Answer {
 struct Length(Option<u32>);
 
 impl fmt::Display for Length {
+    ghost output = { λ length. Some (length_text length.0) };
+
     fn fmt<W: fmt::Write>(&self, f: &mut fmt::Formatter<W>) -> fmt::Result {
         match self.0 {
             Some(length) => write!(f, "{length}"),
@@ -27,7 +33,9 @@ impl fmt::Display for Length {
 }
 
 // Apart from the road's type: no other line shows a road so.
-fn write_road<W: fmt::Write>(f: &mut fmt::Formatter<W>, road: &Road) -> fmt::Result {
+fn write_road<W: fmt::Write>(f: &mut fmt::Formatter<W>, road: &Road) -> fmt::Result
+    ensures { WritesOnOk W.write_str_gives f.old result (road_text road.now) f.new }
+{
     let class = road.class;
     let speed = road.speed;
     let group = road.group.number();
@@ -39,7 +47,14 @@ fn write_road<W: fmt::Write>(f: &mut fmt::Formatter<W>, road: &Road) -> fmt::Res
 }
 
 // Apart from the label's type: a curve's radius and turn, which begin the line, are not in it.
-fn write_label<W: fmt::Write>(f: &mut fmt::Formatter<W>, label: &Label) -> fmt::Result {
+fn write_label<W: fmt::Write>(
+    f: &mut fmt::Formatter<W>,
+    radius: u32,
+    turn: u32,
+    label: &Label,
+) -> fmt::Result
+    ensures { WritesOnOk W.write_str_gives f.old result (label_text radius turn label.now) f.new }
+{
     let p = label.superelevation;
     let comfort = Length(label.comfort);
     let transition = Length(label.transition);
@@ -50,15 +65,13 @@ fn write_label<W: fmt::Write>(f: &mut fmt::Formatter<W>, label: &Label) -> fmt::
     let parameter = Length(label.parameter);
     write!(
         f,
-        "p {p} comfort {comfort} transition {transition} azimuth {azimuth}"
-    )?;
-    write!(
-        f,
-        " shift {shift} fifth {fifth} least {least} A {parameter}"
+        "label {radius} {turn} p {p} comfort {comfort} transition {transition} azimuth {azimuth} shift {shift} fifth {fifth} least {least} A {parameter}"
     )
 }
 
 impl fmt::Display for Answer {
+    ghost output = { λ answer. Some (answer_text answer) };
+
     fn fmt<W: fmt::Write>(&self, f: &mut fmt::Formatter<W>) -> fmt::Result {
         match self {
             Answer::Opened(road) => write_road(f, road),
@@ -66,10 +79,7 @@ impl fmt::Display for Answer {
                 radius,
                 turn,
                 label,
-            } => {
-                write!(f, "label {radius} {turn} ")?;
-                write_label(f, label)
-            }
+            } => write_label(f, *radius, *turn, label),
         }
     }
 }
