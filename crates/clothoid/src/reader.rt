@@ -11,6 +11,7 @@ use text::lines::{Pending, split_line};
 const CHUNK: usize = 65_536;
 
 // Answers the lines that end in the chunk, and leaves what follows the last newline pending.
+// That each line reaches the session is not said here, and only tested.
 fn answer_chunk<W: Write>(
     session: &mut Session,
     pending: &mut Pending,

@@ -1,4 +1,4 @@
--- A word that says a value is of the kind.
+-- Proof that a word that says a value is of the kind. There is nothing here to believe.
 use Rattle.std.specs.Prelude.{◌≡◌, ℕ, List}
 use Rattle.std.proofs.Common.{inl, inr}
 use Rattle.road.specs.Words.{class_word}

@@ -62,6 +62,7 @@ impl Stretch {
 
 impl Clothoids {
     // What the clothoids of a row are held to. The limit is asked only for a curve that calls for clothoids.
+    // No guard on the arm: the check does not cover one that takes a struct with a ghost field.
     pub(crate) fn of<L: Limit>(row: Row, road: &Road, limit: &L) -> Clothoids
         ensures { result ≡ clothoids_of road.now (L.Limit.admitted limit.now) row }
     {

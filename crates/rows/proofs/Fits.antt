@@ -4,7 +4,7 @@ use Rattle.std.specs.Result.{result_unwrap_or}
 use mathlib.Core.HLevel.{×_prop}
 use native.Mathlib.Bridge.{le_prop}
 use Rattle.road.specs.Opening.{Outside}
-use Rattle.rows.specs.Outside.{NoStraight, NoCurve, ReadAs}
+use Rattle.rows.specs.Outside.{NoStraight, NoCurve, RowOrWhy}
 use Rattle.rows.specs.Ranges.{InRange, StraightInRange, CurveInRange}
 use Rattle.rows.specs.Reading.{where_holds, straight_of, straight_row_lem, curve_of, curve_row_lem, blank_row, row_of, record_of}
 use Rattle.road.specs.declared.range.OutOfRange.{OutOfRange}
@@ -60,12 +60,12 @@ no_straight length ClothoidLength never = absurd never
 no_curve : (sense : Sense) (radius turn entry exit : ℕ) (why : OutOfRange) → NoCurve radius turn entry exit why → curve_of sense radius turn entry exit ≡ None
 no_curve sense radius turn entry exit StraightLength never = absurd never
 no_curve sense radius turn entry exit Radius out = where_never _ _ (λ fit. apart 1_000 10_000_000 radius out fit.0)
-no_curve sense radius turn entry exit Turn (_, out) = where_never _ _ (λ fit. apart 1 2_000_000 turn out fit.1.0)
+no_curve sense radius turn entry exit Turn (_, _, out) = where_never _ _ (λ fit. apart 1 2_000_000 turn out fit.1.0)
 no_curve sense radius turn entry exit ClothoidLength (_, (_, out)) =
     where_never _ _ (λ fit. elim out [ inl above ↦ omega (arith, fit.1.1.0) | inr above ↦ omega (arith, fit.1.1.1) ])
 
 -- the row that was read, and the blank row where none was, is what the record stands for
-pub read_is : (stored : RowRecord) (result : Result Row OutOfRange) → ReadAs stored result → result_unwrap_or result blank_row ≡ row_of stored
+pub read_is : (stored : RowRecord) (result : Result Row OutOfRange) → RowOrWhy stored result → result_unwrap_or result blank_row ≡ row_of stored
 read_is stored (Ok r) is = sym (read_back r) ∙ ap row_of is
 read_is (kept.Straight length) (Err why) out = sym (ap straight_row_lem (no_straight length why out))
 read_is (kept.Curve sense radius turn entry exit) (Err why) out = sym (ap curve_row_lem (no_curve sense radius turn entry exit why out))

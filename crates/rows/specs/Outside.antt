@@ -1,6 +1,7 @@
 -- What reading a record gives: its row, or the first of its numbers that is outside its range.
 use Rattle.std.specs.Prelude.{◌≡◌, ℕ, ◌<◌, ◌⊎◌, Ok, Err, Result}
 use Rattle.road.specs.Opening.{Outside}
+use Rattle.limits.specs.Places.{NoPlace}
 use Rattle.rows.specs.Ranges.{InRange}
 use Rattle.rows.specs.Reading.{record_of}
 use Rattle.road.specs.declared.range.OutOfRange.{OutOfRange}
@@ -19,8 +20,8 @@ NoStraight length ClothoidLength = ⊥
 -- Why no curve has these numbers.
 abbrev pub NoCurve : (radius turn entry exit : ℕ) → OutOfRange → Type 0
 NoCurve radius turn entry exit StraightLength = ⊥
-NoCurve radius turn entry exit Radius = Outside 1_000 10_000_000 radius
-NoCurve radius turn entry exit Turn = InRange 1_000 10_000_000 radius × Outside 1 2_000_000 turn
+NoCurve radius turn entry exit Radius = NoPlace radius turn Radius
+NoCurve radius turn entry exit Turn = NoPlace radius turn Turn
 NoCurve radius turn entry exit ClothoidLength =
     InRange 1_000 10_000_000 radius × (InRange 1 2_000_000 turn × ((2_000_000 < entry) ⊎ (2_000_000 < exit)))
 
@@ -28,6 +29,6 @@ abbrev pub NoRow : RowRecord → OutOfRange → Type 0
 NoRow (kept.Straight length) = NoStraight length
 NoRow (kept.Curve sense radius turn entry exit) = NoCurve radius turn entry exit
 
-abbrev pub ReadAs : RowRecord → Result Row OutOfRange → Type 0
-ReadAs stored (Ok row) = record_of row ≡ stored
-ReadAs stored (Err why) = NoRow stored why
+abbrev pub RowOrWhy : RowRecord → Result Row OutOfRange → Type 0
+RowOrWhy stored (Ok row) = record_of row ≡ stored
+RowOrWhy stored (Err why) = NoRow stored why

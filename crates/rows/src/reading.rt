@@ -2,7 +2,7 @@
 ghost use Rattle.std.specs.Prelude.{◌≡◌, MatchResult};
 ghost use Rattle.std.specs.Result.{result_ok};
 ghost use Rattle.rows.specs.Reading.{straight_of, curve_of, blank_row, row_of, record_of};
-ghost use Rattle.rows.specs.Outside.{NoStraight, NoCurve, ReadAs};
+ghost use Rattle.rows.specs.Outside.{NoStraight, NoCurve, RowOrWhy};
 ghost use Rattle.rows.specs.declared.record.RowRecord.TheVariants as kept;
 ghost use Rattle.rows.specs.declared.row.Row.TheVariants as row;
 
@@ -55,7 +55,7 @@ impl Curve {
 impl TryFrom<RowRecord> for Row {
     type Error = OutOfRange;
 
-    ghost try_from_gives = { ReadAs };
+    ghost try_from_gives = { RowOrWhy };
 
     fn try_from(stored: RowRecord) -> Result<Row, OutOfRange> {
         match stored {
