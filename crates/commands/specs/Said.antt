@@ -1,5 +1,5 @@
 -- What the words of a line say.
-use Rattle.std.specs.Prelude.{◌≡◌, ℕ, ◌+◌, ◌-◌, ◌^◌, ◌<◌, ◌≤◌, min, ◌⊎◌, List, [], length, Some, None, Ok, Err, codes, Option, Result, MatchOption, slice_index, slice_index_or}
+use Rattle.std.specs.Prelude.{◌≡◌, ℕ, cond, nat_lt, ◌==◌, ◌+◌, ◌-◌, ◌^◌, ◌<◌, ◌≤◌, min, ◌⊎◌, List, [], length, Some, None, Ok, Err, codes, Option, Result, MatchOption, slice_index, slice_index_or}
 use Rattle.std.specs.Borrow.{Bor}
 use Rattle.std.specs.Result as results
 use Rattle.std.specs.Str.Parse.{IsNumeral, digits_value}
@@ -8,6 +8,8 @@ use Rattle.road.specs.declared.jerk.JerkChoice.{JerkChoice}
 use Rattle.road.specs.declared.jerk.JerkChoice.TheVariants.{Usual, Top}
 use Rattle.commands.specs.declared.command.Command.{Command}
 use Rattle.commands.specs.declared.command.Command.TheVariants.{Road, Label}
+use Rattle.commands.specs.declared.mistake.Expected.{Expected}
+use Rattle.commands.specs.declared.mistake.Expected.TheVariants as want
 use Rattle.commands.specs.declared.mistake.ParseError.{ParseError}
 
 -- what a read past the end gives
@@ -40,13 +42,27 @@ abbrev pub Blames : List (Bor (List ℕ)) → ParseError → Type 0
 Blames ws e =
     MatchOption e.word (e.at ≡ length ws + 1) (λ w. (0 < e.at) × (e.at ≤ length ws) × (w.now ≡ word ws (e.at - 1)))
 
+-- what stands at a place of the words of a road, of a label, counted from 1
+abbrev pub road_place : ℕ → Expected
+road_place at = cond (at == 2) want.Class (cond (at == 6) want.JerkChoice (cond (nat_lt at 6) want.Number want.EndOfLine))
+
+abbrev pub label_place : ℕ → Expected
+label_place at = cond (nat_lt at 4) want.Number want.EndOfLine
+
+-- the error says what should have stood at its place: a command's name, or what the command that is named has there
+abbrev pub Expects : List (Bor (List ℕ)) → ParseError → Type 0
+Expects ws e =
+    ((e.at ≡ 1) × (e.expected ≡ want.Command))
+    ⊎ ((word ws 0 ≡ codes "road") × (1 < e.at) × (e.expected ≡ road_place e.at))
+    ⊎ ((word ws 0 ≡ codes "label") × (1 < e.at) × (e.expected ≡ label_place e.at))
+
 -- what reading the words as a command answers: the one that they say, or an error where they say none
 abbrev pub Parsed : List (Bor (List ℕ)) → Result Command ParseError → Type 0
-Parsed ws r = results.MatchResult r (λ c. Says ws c) (λ e. Blames ws e × ((c : Command) → Says ws c → ⊥))
+Parsed ws r = results.MatchResult r (λ c. Says ws c) (λ e. Blames ws e × Expects ws e × ((c : Command) → Says ws c → ⊥))
 
--- what the reader of one command answers, where the form is that of the words after the command's name
-abbrev pub ReadAs : (List (Bor (List ℕ)) → Type 0) → List (Bor (List ℕ)) → Result Command ParseError → Type 0
-ReadAs Form ws r = results.MatchResult r (λ c. Says ws c) (λ e. Blames ws e × (Form ws → ⊥))
+-- what the reader of one command answers, where the form is that of the words after the command's name, and the place what stands at each place
+abbrev pub ReadAs : (List (Bor (List ℕ)) → Type 0) → (ℕ → Expected) → List (Bor (List ℕ)) → Result Command ParseError → Type 0
+ReadAs Form place ws r = results.MatchResult r (λ c. Says ws c) (λ e. Blames ws e × (Form ws → ⊥) × (1 < e.at) × (e.expected ≡ place e.at))
 
 -- the first word begins with '#'
 abbrev pub Comment : List (Bor (List ℕ)) → Type 0
@@ -56,7 +72,7 @@ Comment ws = slice_index (word ws 0) 0 ≡ 35
 abbrev pub Answers : List (Bor (List ℕ)) → Result (Option Command) ParseError → Type 0
 Answers ws (Ok None) = (length ws ≡ 0) ⊎ Comment ws
 Answers ws (Ok (Some c)) = Says ws c
-Answers ws (Err e) = (0 < length ws) × (Comment ws → ⊥) × Blames ws e × ((c : Command) → Says ws c → ⊥)
+Answers ws (Err e) = (0 < length ws) × (Comment ws → ⊥) × Blames ws e × Expects ws e × ((c : Command) → Says ws c → ⊥)
 
 -- w is the word of a class, of a choice of J
 abbrev pub AClass : List ℕ → Type 0

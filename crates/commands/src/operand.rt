@@ -4,6 +4,8 @@ ghost use Rattle.std.specs.Str.Parse.{IsNumeral};
 ghost use Rattle.road.specs.Words.{class_word};
 ghost use Rattle.commands.specs.Said.{Spells, choice_word, AClass, AChoice};
 ghost use Rattle.commands.specs.Names.{name_word, AName};
+ghost use Rattle.commands.specs.declared.mistake.Expected.{Expected};
+ghost use Rattle.commands.specs.declared.mistake.Expected.TheVariants as want;
 ghost use Rattle.commands.specs.OfKind.{a_class, a_choice, a_name};
 
 use crate::mistake::Expected;
@@ -18,7 +20,11 @@ pub(crate) trait Operand: Sized {
     // which word says which value
     ghost says: { List ℕ → Self → Type 0 };
 
-    const EXPECTED: Expected;
+    // what a word of the kind is called
+    ghost expects: { Expected };
+
+    fn expected() -> Expected
+        ensures { result ≡ expects };
 
     // No `FromStr` beside it, which would state the same again.
     fn read(word: &str) -> Option<Self>
@@ -35,7 +41,11 @@ impl Operand for u32 {
 
     ghost of_kind = { λ w n said. said.0 };
 
-    const EXPECTED: Expected = Expected::Number;
+    ghost expects = { want.Number };
+
+    fn expected() -> Expected {
+        Expected::Number
+    }
 
     fn read(word: &str) -> Option<u32> {
         number(word)
@@ -49,7 +59,11 @@ impl Operand for Class {
 
     ghost of_kind = { a_class };
 
-    const EXPECTED: Expected = Expected::Class;
+    ghost expects = { want.Class };
+
+    fn expected() -> Expected {
+        Expected::Class
+    }
 
     fn read(word: &str) -> Option<Class> {
         match word {
@@ -68,7 +82,11 @@ impl Operand for JerkChoice {
 
     ghost of_kind = { a_choice };
 
-    const EXPECTED: Expected = Expected::JerkChoice;
+    ghost expects = { want.JerkChoice };
+
+    fn expected() -> Expected {
+        Expected::JerkChoice
+    }
 
     fn read(word: &str) -> Option<JerkChoice> {
         match word {
@@ -93,7 +111,11 @@ impl Operand for Name {
 
     ghost of_kind = { a_name };
 
-    const EXPECTED: Expected = Expected::Command;
+    ghost expects = { want.Command };
+
+    fn expected() -> Expected {
+        Expected::Command
+    }
 
     fn read(word: &str) -> Option<Name> {
         match word {

@@ -1,8 +1,9 @@
 // A line's words, read as a command.
-ghost use Rattle.std.specs.Prelude.{◌≡◌, ℕ, ◌+◌, ◌<◌, ◌≤◌, List, length, codes, MatchResult, OnOk};
+ghost use Rattle.std.specs.Prelude.{◌≡◌, ℕ, ◌+◌, ◌<◌, ◌≤◌, List, length, codes, MatchResult, OnOk, ⊤};
 ghost use Rattle.std.specs.Borrow.{Bor};
 ghost use Rattle.text.specs.Words.{Words};
-ghost use Rattle.commands.specs.Said.{word, Blames, Got, ReadAs, RoadForm, LabelForm, Parsed, Answers};
+ghost use Rattle.commands.specs.declared.mistake.Expected.TheVariants as want;
+ghost use Rattle.commands.specs.Said.{word, Blames, Got, ReadAs, RoadForm, LabelForm, road_place, label_place, Parsed, Answers};
 
 use crate::command::Command;
 use crate::mistake::{Expected, ParseError};
@@ -24,7 +25,8 @@ struct Cursor<'w, 'a> {
 impl<'a> Cursor<'_, 'a> {
     // The word at the place, or the line's end, is not what was expected.
     fn wrong(&self, expected: Expected) -> ParseError<'a>
-        ensures { Blames self.now.words.now result }
+        ensures blames { Blames self.now.words.now result }
+        ensures expects { (result.at ≡ self.now.at + 1) × (result.expected ≡ expected) }
     {
         ParseError {
             at: self.at + 1,
@@ -36,20 +38,21 @@ impl<'a> Cursor<'_, 'a> {
     // Reads the word at the place.
     fn operand<T: Operand>(&mut self) -> Result<T, ParseError<'a>>
         ensures read { Got self.old.words.now self.old.at (T.kind) (T.says) result }
+        ensures place { MatchResult result (λ _. ⊤) (λ e. (e.at ≡ self.old.at + 1) × (e.expected ≡ T.expects)) }
         ensures next { OnOk result ((self.new.words ≡ self.old.words) × (self.new.at ≡ self.old.at + 1)) }
     {
         let value = self
             .words
             .get(self.at)
             .and_then(|word| T::read(word))
-            .ok_or_else(|| self.wrong(T::EXPECTED))?;
+            .ok_or_else(|| self.wrong(T::expected()))?;
         self.at += 1;
         Ok(value)
     }
 
     // That the line ends at the place.
     fn end(&self) -> Result<(), ParseError<'a>>
-        ensures { MatchResult result (λ _. length self.now.words.now ≡ self.now.at) (λ e. Blames self.now.words.now e × (self.now.at < length self.now.words.now)) }
+        ensures { MatchResult result (λ _. length self.now.words.now ≡ self.now.at) (λ e. Blames self.now.words.now e × (self.now.at < length self.now.words.now) × (e.at ≡ self.now.at + 1) × (e.expected ≡ want.EndOfLine)) }
     {
         if self.at < self.words.len() {
             return Err(self.wrong(Expected::EndOfLine));
@@ -59,7 +62,7 @@ impl<'a> Cursor<'_, 'a> {
 
     fn road(&mut self) -> Result<Command, ParseError<'a>>
         requires { (self.old.at ≡ 1) × (word self.old.words.now 0 ≡ codes "road") }
-        ensures { ReadAs (RoadForm) self.old.words.now result }
+        ensures { ReadAs (RoadForm) (road_place) self.old.words.now result }
     {
         let design = RoadDesign {
             class: self.operand()?,
@@ -74,7 +77,7 @@ impl<'a> Cursor<'_, 'a> {
 
     fn label(&mut self) -> Result<Command, ParseError<'a>>
         requires { (self.old.at ≡ 1) × (word self.old.words.now 0 ≡ codes "label") }
-        ensures { ReadAs (LabelForm) self.old.words.now result }
+        ensures { ReadAs (LabelForm) (label_place) self.old.words.now result }
     {
         let radius = self.operand()?;
         let turn = self.operand()?;
