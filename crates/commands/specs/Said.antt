@@ -8,6 +8,7 @@ use Rattle.road.specs.declared.jerk.JerkChoice.{JerkChoice}
 use Rattle.road.specs.declared.jerk.JerkChoice.TheVariants.{Usual, Top}
 use Rattle.commands.specs.declared.command.Command.{Command}
 use Rattle.commands.specs.declared.command.Command.TheVariants.{Road, Label}
+use Rattle.commands.specs.Names.{AName}
 use Rattle.commands.specs.declared.mistake.Expected.{Expected}
 use Rattle.commands.specs.declared.mistake.Expected.TheVariants as want
 use Rattle.commands.specs.declared.mistake.ParseError.{ParseError}
@@ -49,6 +50,25 @@ road_place at = cond (at == 2) want.Class (cond (at == 6) want.JerkChoice (cond 
 abbrev pub label_place : ℕ → Expected
 label_place at = cond (nat_lt at 4) want.Number want.EndOfLine
 
+-- w is the word of a class, of a choice of J
+abbrev pub AClass : List ℕ → Type 0
+AClass w = (w ≡ codes "A") ⊎ (w ≡ codes "M") ⊎ (w ≡ codes "C")
+
+abbrev pub AChoice : List ℕ → Type 0
+AChoice w = (w ≡ codes "usual") ⊎ (w ≡ codes "top")
+
+-- w is what should have stood there
+abbrev pub Wanted : Expected → List ℕ → Type 0
+Wanted want.Command w = AName w
+Wanted want.Class w = AClass w
+Wanted want.Number w = IsNumeral 10 w
+Wanted want.JerkChoice w = AChoice w
+Wanted want.EndOfLine w = ⊥
+
+-- the word that the error names, if there is one, is not what should have stood there
+abbrev pub Wrong : List (Bor (List ℕ)) → ParseError → Type 0
+Wrong ws e = e.at ≤ length ws → Wanted e.expected (word ws (e.at - 1)) → ⊥
+
 -- the error says what should have stood at its place: a command's name, or what the command that is named has there
 abbrev pub Expects : List (Bor (List ℕ)) → ParseError → Type 0
 Expects ws e =
@@ -58,11 +78,11 @@ Expects ws e =
 
 -- what reading the words as a command answers: the one that they say, or an error where they say none
 abbrev pub Parsed : List (Bor (List ℕ)) → Result Command ParseError → Type 0
-Parsed ws r = results.MatchResult r (λ c. Says ws c) (λ e. Blames ws e × Expects ws e × ((c : Command) → Says ws c → ⊥))
+Parsed ws r = results.MatchResult r (λ c. Says ws c) (λ e. Blames ws e × Expects ws e × Wrong ws e × ((c : Command) → Says ws c → ⊥))
 
 -- what the reader of one command answers, where the form is that of the words after the command's name, and the place what stands at each place
 abbrev pub ReadAs : (List (Bor (List ℕ)) → Type 0) → (ℕ → Expected) → List (Bor (List ℕ)) → Result Command ParseError → Type 0
-ReadAs Form place ws r = results.MatchResult r (λ c. Says ws c) (λ e. Blames ws e × (Form ws → ⊥) × (1 < e.at) × (e.expected ≡ place e.at))
+ReadAs Form place ws r = results.MatchResult r (λ c. Says ws c) (λ e. Blames ws e × (Form ws → ⊥) × (1 < e.at) × (e.expected ≡ place e.at) × Wrong ws e)
 
 -- the first word begins with '#'
 abbrev pub Comment : List (Bor (List ℕ)) → Type 0
@@ -72,14 +92,7 @@ Comment ws = slice_index (word ws 0) 0 ≡ 35
 abbrev pub Answers : List (Bor (List ℕ)) → Result (Option Command) ParseError → Type 0
 Answers ws (Ok None) = (length ws ≡ 0) ⊎ Comment ws
 Answers ws (Ok (Some c)) = Says ws c
-Answers ws (Err e) = (0 < length ws) × (Comment ws → ⊥) × Blames ws e × Expects ws e × ((c : Command) → Says ws c → ⊥)
-
--- w is the word of a class, of a choice of J
-abbrev pub AClass : List ℕ → Type 0
-AClass w = (w ≡ codes "A") ⊎ (w ≡ codes "M") ⊎ (w ≡ codes "C")
-
-abbrev pub AChoice : List ℕ → Type 0
-AChoice w = (w ≡ codes "usual") ⊎ (w ≡ codes "top")
+Answers ws (Err e) = (0 < length ws) × (Comment ws → ⊥) × Blames ws e × Expects ws e × Wrong ws e × ((c : Command) → Says ws c → ⊥)
 
 -- the words after the first are those of some road, of some label
 pub record RoadForm (ws : List (Bor (List ℕ))) : Type 0 where

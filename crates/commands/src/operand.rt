@@ -2,7 +2,7 @@
 ghost use Rattle.std.specs.Prelude.{◌≡◌, List, ℕ, MatchOption};
 ghost use Rattle.std.specs.Str.Parse.{IsNumeral};
 ghost use Rattle.road.specs.Words.{class_word};
-ghost use Rattle.commands.specs.Said.{Spells, choice_word, AClass, AChoice};
+ghost use Rattle.commands.specs.Said.{Wanted, Spells, choice_word, AClass, AChoice};
 ghost use Rattle.commands.specs.Names.{name_word, AName};
 ghost use Rattle.commands.specs.declared.mistake.Expected.{Expected};
 ghost use Rattle.commands.specs.declared.mistake.Expected.TheVariants as want;
@@ -30,6 +30,9 @@ pub(crate) trait Operand: Sized {
     fn read(word: &str) -> Option<Self>
         ensures { MatchOption result (kind word.now → ⊥) (λ x. says word.now x) };
 
+    // a word that may stand where this is expected is of the kind
+    ghost wanted: { (w : List ℕ) → Wanted expects w → kind w };
+
     // a word that says a value is of the kind
     ghost of_kind: { (w : List ℕ) (x : Self) → says w x → kind w };
 }
@@ -38,6 +41,8 @@ impl Operand for u32 {
     ghost kind = { IsNumeral 10 };
 
     ghost says = { Spells };
+
+    ghost wanted = { λ w right. right };
 
     ghost of_kind = { λ w n said. said.0 };
 
@@ -56,6 +61,8 @@ impl Operand for Class {
     ghost kind = { AClass };
 
     ghost says = { λ w class. w ≡ class_word class };
+
+    ghost wanted = { λ w right. right };
 
     ghost of_kind = { a_class };
 
@@ -79,6 +86,8 @@ impl Operand for JerkChoice {
     ghost kind = { AChoice };
 
     ghost says = { λ w choice. w ≡ choice_word choice };
+
+    ghost wanted = { λ w right. right };
 
     ghost of_kind = { a_choice };
 
@@ -108,6 +117,8 @@ impl Operand for Name {
     ghost kind = { AName };
 
     ghost says = { λ w name. w ≡ name_word name };
+
+    ghost wanted = { λ w right. right };
 
     ghost of_kind = { a_name };
 

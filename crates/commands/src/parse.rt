@@ -3,7 +3,7 @@ ghost use Rattle.std.specs.Prelude.{◌≡◌, ℕ, ◌+◌, ◌<◌, ◌≤◌,
 ghost use Rattle.std.specs.Borrow.{Bor};
 ghost use Rattle.text.specs.Words.{Words};
 ghost use Rattle.commands.specs.declared.mistake.Expected.TheVariants as want;
-ghost use Rattle.commands.specs.Said.{word, Blames, Got, ReadAs, RoadForm, LabelForm, road_place, label_place, Parsed, Answers};
+ghost use Rattle.commands.specs.Said.{word, Blames, Wrong, Got, ReadAs, RoadForm, LabelForm, road_place, label_place, Parsed, Answers};
 
 use crate::command::Command;
 use crate::mistake::{Expected, ParseError};
@@ -38,7 +38,7 @@ impl<'a> Cursor<'_, 'a> {
     // Reads the word at the place.
     fn operand<T: Operand>(&mut self) -> Result<T, ParseError<'a>>
         ensures read { Got self.old.words.now self.old.at (T.kind) (T.says) result }
-        ensures place { MatchResult result (λ _. ⊤) (λ e. (e.at ≡ self.old.at + 1) × (e.expected ≡ T.expects)) }
+        ensures place { MatchResult result (λ _. ⊤) (λ e. (e.at ≡ self.old.at + 1) × (e.expected ≡ T.expects) × Wrong self.old.words.now e) }
         ensures next { OnOk result ((self.new.words ≡ self.old.words) × (self.new.at ≡ self.old.at + 1)) }
     {
         let value = self
@@ -52,7 +52,7 @@ impl<'a> Cursor<'_, 'a> {
 
     // That the line ends at the place.
     fn end(&self) -> Result<(), ParseError<'a>>
-        ensures { MatchResult result (λ _. length self.now.words.now ≡ self.now.at) (λ e. Blames self.now.words.now e × (self.now.at < length self.now.words.now) × (e.at ≡ self.now.at + 1) × (e.expected ≡ want.EndOfLine)) }
+        ensures { MatchResult result (λ _. length self.now.words.now ≡ self.now.at) (λ e. Blames self.now.words.now e × (self.now.at < length self.now.words.now) × (e.at ≡ self.now.at + 1) × (e.expected ≡ want.EndOfLine) × Wrong self.now.words.now e) }
     {
         if self.at < self.words.len() {
             return Err(self.wrong(Expected::EndOfLine));
