@@ -1,11 +1,15 @@
--- How answers are shown, and commands without one.
+-- How answers are shown, commands without one, and rows.
 use Rattle.std.specs.Prelude.{ℕ, List, [], ◌∷◌, ◌++◌, Option, Some, None, codes, decimal}
 use Rattle.superelevation.specs.Superelevation.{group_number}
 use Rattle.road.specs.declared.road.Road.{Road}
 use Rattle.road.specs.Words.{class_word}
 use Rattle.label.specs.declared.Label.{Label}
+use Rattle.rows.specs.declared.row.Row.{Row}
+use Rattle.rows.specs.declared.row.Row.TheVariants.{Straight, Curve}
+use Rattle.commands.specs.Names.{name_word}
+use Rattle.commands.specs.Words.{sense_word}
 use Rattle.answers.specs.declared.answer.Answer.{Answer}
-use Rattle.answers.specs.declared.answer.Answer.TheVariants.{Opened, Labelled}
+use Rattle.answers.specs.declared.answer.Answer.TheVariants.{Opened, Labelled, Added, Removed, LengthsSet, Found}
 use Rattle.road.specs.Refusals.{number_of, row_of}
 use Rattle.road.specs.Words.{reason_of}
 use Rattle.answers.specs.declared.failure.Failure.{Failure}
@@ -17,11 +21,12 @@ joined [] = []
 joined (text ∷ []) = text
 joined (text ∷ next ∷ texts) = text ++ joined (next ∷ texts)
 
--- A refusal is shown by its number, the row that it names, and its reason.
+-- A refusal is shown by its number, the row that it names, and its reason; a command without an open road by its name, the first word of its line.
 abbrev pub failure_text : Failure → List ℕ
 failure_text (Refused refusal) =
     joined (codes "refused " ∷ decimal (number_of refusal) ∷ codes " " ∷ decimal (row_of refusal) ∷ codes ": " ∷ reason_of refusal ∷ [])
-failure_text NoRoad = codes "word 1 is 'label', and no road is open: begin with road CLASS SPEED B LANES usual|top"
+failure_text (NoRoad name) =
+    joined (codes "word 1 is '" ∷ name_word name ∷ codes "', and no road is open: begin with road CLASS SPEED B LANES usual|top" ∷ [])
 
 -- A length, or that there is none.
 abbrev pub length_text : Option ℕ → List ℕ
@@ -59,3 +64,22 @@ label_text radius turn label =
 abbrev pub answer_text : Answer → List ℕ
 answer_text (Opened road) = road_text road
 answer_text (Labelled radius turn label) = label_text radius turn label
+answer_text (Added row) = codes "added " ++ decimal row
+answer_text (Removed row) = codes "removed " ++ decimal row
+answer_text (LengthsSet row) = codes "set " ++ decimal row
+answer_text (Found count) = codes "findings " ++ decimal count
+
+-- A row with its place, as a line.
+abbrev pub row_text : (place : ℕ) → Row → List ℕ
+row_text place (Straight s) = joined (codes "straight " ∷ decimal place ∷ codes " " ∷ decimal s.length ∷ [])
+row_text place (Curve c) =
+    joined
+    (
+    codes "curve " ∷ decimal place
+    ∷ codes " " ∷ sense_word c.sense
+    ∷ codes " " ∷ decimal c.radius
+    ∷ codes " " ∷ decimal c.turn
+    ∷ codes " " ∷ decimal c.entry
+    ∷ codes " " ∷ decimal c.exit
+    ∷ []
+    )

@@ -15,6 +15,19 @@ pub enum Answer {
         turn: u32,
         label: Label,
     },
+    Added {
+        row: usize,
+    },
+    Removed {
+        row: usize,
+    },
+    LengthsSet {
+        row: usize,
+    },
+    // so many findings, which stand at the front of their memory
+    Found {
+        count: usize,
+    },
 }
 
 // A length, or that there is none. A type of its own, since how an `Option` is shown is not ours to say.
@@ -80,6 +93,10 @@ impl fmt::Display for Answer {
                 turn,
                 label,
             } => write_label(f, *radius, *turn, label),
+            Answer::Added { row } => write!(f, "added {row}"),
+            Answer::Removed { row } => write!(f, "removed {row}"),
+            Answer::LengthsSet { row } => write!(f, "set {row}"),
+            Answer::Found { count } => write!(f, "findings {count}"),
         }
     }
 }

@@ -3,18 +3,16 @@ ghost use Rattle.std.specs.Prelude.{◌≡◌, Some};
 ghost use Rattle.answers.specs.Shown.{failure_text};
 ghost use Rattle.answers.specs.declared.failure.Failure.TheVariants.{Refused};
 
+use commands::name::Name;
 use road::refusal::Refusal;
 use std::error::Error;
 use std::fmt;
 
-const NO_ROAD: &str =
-    "word 1 is 'label', and no road is open: begin with road CLASS SPEED B LANES usual|top";
-
 #[derive(Clone, Copy, PartialEq, Eq, Debug)]
 pub enum Failure {
     Refused(Refusal),
-    // the command speaks of the open road, and there is none
-    NoRoad,
+    // the command of this name speaks of the open road, and there is none
+    NoRoad(Name),
 }
 
 impl From<Refusal> for Failure {
@@ -35,7 +33,10 @@ impl fmt::Display for Failure {
                 let row = refusal.row();
                 write!(f, "refused {number} {row}: {refusal}")
             }
-            Failure::NoRoad => f.write_str(NO_ROAD),
+            Failure::NoRoad(name) => write!(
+                f,
+                "word 1 is '{name}', and no road is open: begin with road CLASS SPEED B LANES usual|top"
+            ),
         }
     }
 }

@@ -3,3 +3,4 @@
 
 pub mod answer;
 pub mod failure;
+pub mod shown_row;

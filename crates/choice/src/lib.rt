@@ -1,6 +1,8 @@
 // A limit that is chosen by name at run time: one of the Norma's, or a client's table.
 #![tactic(auto)]
 
+pub mod in_force;
+
 ghost use Rattle.std.specs.Prelude.{◌≡◌};
 ghost use Rattle.limits.specs.declared.place.Place.{Place};
 ghost use Rattle.choice.specs.Chosen.{chosen, chosen_lawful};

@@ -3,12 +3,14 @@ pub const USAGE: &str = "usage: clothoid [FILE]";
 
 pub const HELP: &str = "Answers the commands of FILE, or of standard input, a line each.
 Lengths and radii are in mm, turns in ten-thousandths of a gon, speeds in km/h.
+Rows are counted from 0.
 
   road CLASS SPEED B LANES usual|top
-      Opens a road: its class (A, M or C), its speed, the distance B from the axis
-      of rotation to the pavement's edge, the lanes turning (3 for more), and
-      whether J is the usual one or the top one. Later commands speak of this
-      road. A road that is refused leaves the one before.
+      Opens a road with an empty sheet of rows, in place of the sheet before: its
+      class (A, M or C), its speed, the distance B from the axis of rotation to the
+      pavement's edge, the lanes turning (3 for more), and whether J is the usual one
+      or the top one. Later commands speak of this road. A road that is refused leaves
+      the sheet before.
       road C 100 3500 1 usual
       opened C-100 group 2 least radius 450000
 
@@ -22,9 +24,50 @@ Lengths and radii are in mm, turns in ten-thousandths of a gon, speeds in km/h.
       label 1000000 300000
       label 1000000 300000 p 647 comfort 9555 transition 49229 azimuth 111112 shift 109545 fifth 188502 least 111112 A 333335
 
+  straight LENGTH [before N]
+      Adds a straight before row N, or after the last row.
+      straight 250000
+      added 0
+
+  curve left|right R W [before N]
+      Adds a curve of radius R that turns by W, with clothoids of length 0.
+      curve left 1000000 300000
+      added 1
+
+  remove N
+      Takes row N out; the rows after it move down.
+      remove 0
+      removed 0
+
+  set N ENTRY EXIT
+      Gives the curve in row N clothoids of these lengths.
+      set 0 111112 111112
+      set 0
+
+  rows
+      Lists the rows: straight N LENGTH, or curve N SENSE R W ENTRY EXIT.
+      rows
+      curve 0 left 1000000 300000 111112 111112
+
+  limit NAME..
+      Has the clothoids keep these limits, together: comfort, transition, azimuth,
+      shift, fifth, or table FILE, a client's table. A sheet just opened has the
+      compulsory four: comfort transition azimuth shift.
+      limit comfort fifth
+      limit comfort fifth
+
+  check
+      Lists what is not in order: the row, the rule's number, the part of the row,
+      whether it is a breach or advice, and why; and then how many findings there are.
+      check
+      finding 0 1 entry breach: the entry clothoid of 111112 mm is not admitted; the least admitted length is 188502 mm
+      finding 0 1 exit breach: the exit clothoid of 111112 mm is not admitted; the least admitted length is 188502 mm
+      findings 2
+
 Numbers are digits only. Blank lines and lines that begin with # are skipped.
-A command whose operands are refused answers 'refused NUMBER ROW: ' and the reason.
-A line that is no command, or is longer than 16384 bytes, or is a label before any
-road answers 'error LINE: ' and what is wrong with it; the other lines are still
-answered, and the program then ends with status 1.
+A command whose operands are refused answers 'refused NUMBER ROW: ' and the reason,
+and changes nothing. A line that is no command, or is longer than 16384 bytes, or
+speaks of a road before there is any, or names a file that cannot be read, answers
+'error LINE: ' and what is wrong with it; the other lines are still answered, and
+the program then ends with status 1.
 ";

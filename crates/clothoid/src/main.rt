@@ -14,14 +14,14 @@ mod reader;
 use help::{HELP, USAGE};
 use reader::answer_all;
 
-// An error where lines were no commands.
+// An error where lines are wrong.
 fn verdict(heap: Global, wrong: u64) -> anyhow::Result<()>
     ensures { Decides (is_ok result) (wrong ≡ 0) }
 {
     match wrong {
         0 => Ok(()),
-        1 => Err(anyhow!("1 line was not a command")),
-        _ => Err(anyhow!(format!(in heap; "{wrong} lines were not commands")?)),
+        1 => Err(anyhow!("1 line is wrong")),
+        _ => Err(anyhow!(format!(in heap; "{wrong} lines are wrong")?)),
     }
 }
 

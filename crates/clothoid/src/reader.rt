@@ -13,6 +13,7 @@ const CHUNK: usize = 65_536;
 // Answers the lines that end in the chunk, and leaves what follows the last newline pending.
 // That each line reaches the session is not said here, and only tested.
 fn answer_chunk<W: Write>(
+    rt: &HostRuntime,
     session: &mut Session,
     pending: &mut Pending,
     out: &mut W,
@@ -23,7 +24,7 @@ fn answer_chunk<W: Write>(
     let mut rest = chunk;
     while let Some((line, next)) = split_line(rest) {
         pending.add(line)?;
-        session.line(out, pending.line())?;
+        session.line(rt, out, pending.line())?;
         pending.clear();
         rest = next;
     }
@@ -35,7 +36,7 @@ fn answer_chunk<W: Write>(
 pub(crate) fn answer_all<R: Read + Drop>(rt: &HostRuntime, mut reader: R) -> anyhow::Result<u64> {
     let heap = rt.alloc();
     let mut out = BufWriter::new(heap, rt.stdout())?;
-    let mut session = Session::new();
+    let mut session = Session::new(heap)?;
     let mut pending = Pending::new(heap);
     let mut buffer = vec![in heap; 0u8; CHUNK]?;
     // Counted, since a loop whose end is not shown would need the right to wait.
@@ -46,6 +47,7 @@ pub(crate) fn answer_all<R: Read + Drop>(rt: &HostRuntime, mut reader: R) -> any
             Err(e) => return Err(anyhow!(format!(in heap; "cannot read: {e}")?)),
         };
         answer_chunk(
+            rt,
             &mut session,
             &mut pending,
             &mut out,
@@ -54,7 +56,7 @@ pub(crate) fn answer_all<R: Read + Drop>(rt: &HostRuntime, mut reader: R) -> any
         out.flush()?;
     }
     if !pending.is_empty() {
-        session.line(&mut out, pending.line())?;
+        session.line(rt, &mut out, pending.line())?;
     }
     out.flush()?;
     Ok(session.wrong)

@@ -1,1 +1,3 @@
 mod ShownWords
+pub mod NameSteps
+pub mod NoneSaid

@@ -1,4 +1,5 @@
-pub mod Said
+pub mod Words
 pub mod Names
-pub mod OfKind
+pub mod Mistakes
+pub mod Said
 pub mod Shown

@@ -1,12 +1,56 @@
--- The words that commands begin with.
-use Rattle.std.specs.Prelude.{◌≡◌, ℕ, ◌⊎◌, List, codes}
-use Rattle.commands.specs.declared.operand.Name.{Name}
-use Rattle.commands.specs.declared.operand.Name.TheVariants.{Road, Label}
+-- The words that commands begin with, and those that name limits.
+use Rattle.std.specs.Prelude.{◌≡◌, ℕ, ◌⊎◌, List, [], ◌∷◌, codes}
+use Rattle.std.specs.Borrow.{Bor}
+use Rattle.plain.specs.declared.NewRow.TheVariants as new
+use Rattle.commands.specs.declared.command.Command.{Command}
+use Rattle.commands.specs.declared.command.Command.TheVariants as command
+use Rattle.commands.specs.declared.command.SheetCommand.TheVariants as sheet
+use Rattle.commands.specs.declared.name.Name.{Name}
+use Rattle.commands.specs.declared.name.Name.TheVariants.{Road, Label, Straight, Curve, Remove, Set, Rows, Limit, Check}
+use Rattle.commands.specs.declared.limit_name.LimitName.{LimitName}
+use Rattle.commands.specs.declared.limit_name.LimitName.TheVariants.{Comfort, Transition, Azimuth, Shift, Fifth, Table}
 
 abbrev pub name_word : Name → List ℕ
 name_word Road = codes "road"
 name_word Label = codes "label"
+name_word Straight = codes "straight"
+name_word Curve = codes "curve"
+name_word Remove = codes "remove"
+name_word Set = codes "set"
+name_word Rows = codes "rows"
+name_word Limit = codes "limit"
+name_word Check = codes "check"
 
--- w is the word of a command
-abbrev pub AName : List ℕ → Type 0
-AName w = (w ≡ codes "road") ⊎ (w ≡ codes "label")
+-- the name of a command
+abbrev pub name_of : Command → Name
+name_of (command.Road design) = Road
+name_of (command.Label radius turn) = Label
+name_of (command.Sheet (sheet.Add (new.Straight length) before)) = Straight
+name_of (command.Sheet (sheet.Add (new.Curve sense radius turn) before)) = Curve
+name_of (command.Sheet (sheet.Remove row)) = Remove
+name_of (command.Sheet (sheet.Set row entry exit)) = Set
+name_of (command.Sheet sheet.Check) = Check
+name_of command.Rows = Rows
+name_of command.Limit = Limit
+
+abbrev pub limit_word : LimitName → List ℕ
+limit_word Comfort = codes "comfort"
+limit_word Transition = codes "transition"
+limit_word Azimuth = codes "azimuth"
+limit_word Shift = codes "shift"
+limit_word Fifth = codes "fifth"
+limit_word Table = codes "table"
+
+-- w is the name of a limit
+abbrev pub ALimit : List ℕ → Type 0
+ALimit w = (name : LimitName) × (w ≡ limit_word name)
+
+-- the name of a limit that needs no file
+abbrev pub Plain : List ℕ → Type 0
+Plain w = ALimit w × (w ≡ codes "table" → ⊥)
+
+-- the words are names of limits, where `table` has one word after it, the name of a file
+abbrev pub Names : List (Bor (List ℕ)) → Type 0
+Names [] = Unit {0}
+Names (w ∷ []) = Plain w.now
+Names (w ∷ v ∷ ws) = (Plain w.now × Names (v ∷ ws)) ⊎ ((w.now ≡ codes "table") × Names ws)

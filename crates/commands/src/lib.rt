@@ -2,6 +2,8 @@
 #![tactic(auto)]
 
 pub mod command;
+pub mod limit_name;
 pub mod mistake;
+pub mod name;
 mod operand;
 pub mod parse;

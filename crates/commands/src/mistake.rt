@@ -13,6 +13,10 @@ pub enum Expected {
     Class,
     Number,
     JerkChoice,
+    Sense,
+    Before,
+    LimitName,
+    FileName,
     EndOfLine,
 }
 
@@ -21,10 +25,16 @@ impl fmt::Display for Expected {
 
     fn fmt<W: fmt::Write>(&self, f: &mut fmt::Formatter<W>) -> fmt::Result {
         f.write_str(match self {
-            Expected::Command => "a command: road or label",
+            Expected::Command =>
+                "a command: road, label, straight, curve, remove, set, rows, limit or check",
             Expected::Class => "a class: A, M or C",
             Expected::Number => "a number: digits only",
             Expected::JerkChoice => "usual or top",
+            Expected::Sense => "left or right",
+            Expected::Before => "before, or the end of the line",
+            Expected::LimitName =>
+                "a limit: comfort, transition, azimuth, shift, fifth or table FILE",
+            Expected::FileName => "the name of a file",
             Expected::EndOfLine => "the end of the line",
         })
     }

@@ -1,52 +1,44 @@
 // What a word stands for in a command.
-ghost use Rattle.std.specs.Prelude.{◌≡◌, List, ℕ, MatchOption};
-ghost use Rattle.std.specs.Str.Parse.{IsNumeral};
+ghost use Rattle.std.specs.Prelude.{◌≡◌, List, ℕ, MatchOption, ⊤};
 ghost use Rattle.road.specs.Words.{class_word};
-ghost use Rattle.commands.specs.Said.{Wanted, Spells, choice_word, AClass, AChoice};
-ghost use Rattle.commands.specs.Names.{name_word, AName};
+ghost use Rattle.commands.specs.Words.{Spells, choice_word, sense_word};
+ghost use Rattle.commands.specs.Names.{name_word, limit_word};
+ghost use Rattle.commands.specs.Mistakes.{Wanted, MayEnd};
 ghost use Rattle.commands.specs.declared.mistake.Expected.{Expected};
 ghost use Rattle.commands.specs.declared.mistake.Expected.TheVariants as want;
-ghost use Rattle.commands.specs.OfKind.{a_class, a_choice, a_name};
 
+use crate::limit_name::{LimitName, limit_name};
 use crate::mistake::Expected;
+use crate::name::Name;
 use road::class::Class;
 use road::jerk::JerkChoice;
+use rows::row::Sense;
 use text::number::number;
 
 pub(crate) trait Operand: Sized {
-    // the words of this kind
-    ghost kind: { List ℕ → Type 0 };
-
     // which word says which value
     ghost says: { List ℕ → Self → Type 0 };
 
-    // what a word of the kind is called
+    // what a word that says one is called
     ghost expects: { Expected };
+
+    // the line may not end where one is expected
+    ghost needed: { MayEnd expects → ⊥ };
 
     fn expected() -> Expected
         ensures { result ≡ expects };
 
     // No `FromStr` beside it, which would state the same again.
     fn read(word: &str) -> Option<Self>
-        ensures { MatchOption result (kind word.now → ⊥) (λ x. says word.now x) };
-
-    // a word that may stand where this is expected is of the kind
-    ghost wanted: { (w : List ℕ) → Wanted expects w → kind w };
-
-    // a word that says a value is of the kind
-    ghost of_kind: { (w : List ℕ) (x : Self) → says w x → kind w };
+        ensures { MatchOption result (Wanted expects word.now → ⊥) (λ x. says word.now x) };
 }
 
 impl Operand for u32 {
-    ghost kind = { IsNumeral 10 };
-
     ghost says = { Spells };
 
-    ghost wanted = { λ w right. right };
-
-    ghost of_kind = { λ w n said. said.0 };
-
     ghost expects = { want.Number };
+
+    ghost needed = { λ ends. ends };
 
     fn expected() -> Expected {
         Expected::Number
@@ -58,15 +50,11 @@ impl Operand for u32 {
 }
 
 impl Operand for Class {
-    ghost kind = { AClass };
-
     ghost says = { λ w class. w ≡ class_word class };
 
-    ghost wanted = { λ w right. right };
-
-    ghost of_kind = { a_class };
-
     ghost expects = { want.Class };
+
+    ghost needed = { λ ends. ends };
 
     fn expected() -> Expected {
         Expected::Class
@@ -83,15 +71,11 @@ impl Operand for Class {
 }
 
 impl Operand for JerkChoice {
-    ghost kind = { AChoice };
-
     ghost says = { λ w choice. w ≡ choice_word choice };
 
-    ghost wanted = { λ w right. right };
-
-    ghost of_kind = { a_choice };
-
     ghost expects = { want.JerkChoice };
+
+    ghost needed = { λ ends. ends };
 
     fn expected() -> Expected {
         Expected::JerkChoice
@@ -106,23 +90,67 @@ impl Operand for JerkChoice {
     }
 }
 
-// Which command a line is.
-#[derive(Clone, Copy)]
-pub(crate) enum Name {
-    Road,
-    Label,
+impl Operand for Sense {
+    ghost says = { λ w sense. w ≡ sense_word sense };
+
+    ghost expects = { want.Sense };
+
+    ghost needed = { λ ends. ends };
+
+    fn expected() -> Expected {
+        Expected::Sense
+    }
+
+    fn read(word: &str) -> Option<Sense> {
+        match word {
+            "left" => Some(Sense::Left),
+            "right" => Some(Sense::Right),
+            _ => None,
+        }
+    }
+}
+
+impl Operand for LimitName {
+    ghost says = { λ w name. w ≡ limit_word name };
+
+    ghost expects = { want.LimitName };
+
+    ghost needed = { λ ends. ends };
+
+    fn expected() -> Expected {
+        Expected::LimitName
+    }
+
+    fn read(word: &str) -> Option<LimitName> {
+        limit_name(word)
+    }
+}
+
+// The name of a file, which any word may be.
+pub(crate) struct FileName;
+
+impl Operand for FileName {
+    ghost says = { λ w file. ⊤ };
+
+    ghost expects = { want.FileName };
+
+    ghost needed = { λ ends. ends };
+
+    fn expected() -> Expected {
+        Expected::FileName
+    }
+
+    fn read(_: &str) -> Option<FileName> {
+        Some(FileName)
+    }
 }
 
 impl Operand for Name {
-    ghost kind = { AName };
-
     ghost says = { λ w name. w ≡ name_word name };
 
-    ghost wanted = { λ w right. right };
-
-    ghost of_kind = { a_name };
-
     ghost expects = { want.Command };
+
+    ghost needed = { λ ends. ends };
 
     fn expected() -> Expected {
         Expected::Command
@@ -132,6 +160,13 @@ impl Operand for Name {
         match word {
             "road" => Some(Name::Road),
             "label" => Some(Name::Label),
+            "straight" => Some(Name::Straight),
+            "curve" => Some(Name::Curve),
+            "remove" => Some(Name::Remove),
+            "set" => Some(Name::Set),
+            "rows" => Some(Name::Rows),
+            "limit" => Some(Name::Limit),
+            "check" => Some(Name::Check),
             _ => None,
         }
     }

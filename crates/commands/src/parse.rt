@@ -1,18 +1,24 @@
 // A line's words, read as a command.
-ghost use Rattle.std.specs.Prelude.{◌≡◌, ℕ, ◌+◌, ◌<◌, ◌≤◌, List, length, codes, MatchResult, OnOk, ⊤};
+ghost use Rattle.std.specs.Prelude.{◌≡◌, ℕ, ◌+◌, ◌-◌, ◌<◌, ◌≤◌, ◌⊎◌, List, length, codes, MatchResult, OnOk};
 ghost use Rattle.std.specs.Borrow.{Bor};
 ghost use Rattle.text.specs.Words.{Words};
 ghost use Rattle.commands.specs.declared.mistake.Expected.TheVariants as want;
-ghost use Rattle.commands.specs.Said.{word, Blames, Wrong, Got, ReadAs, RoadForm, LabelForm, road_place, label_place, Parsed, Answers};
+ghost use Rattle.commands.specs.declared.name.Name.TheVariants as name;
+ghost use Rattle.commands.specs.Words.{word};
+ghost use Rattle.commands.specs.Mistakes.{Blames, Wrong, BeforeAt, NamesBefore, LimitAt};
+ghost use Rattle.commands.specs.Said.{BeforeFrom, ReadAs, Parsed, Answers};
 
-use crate::command::Command;
+use crate::command::{Command, SheetCommand};
+use crate::limit_name::LimitName;
 use crate::mistake::{Expected, ParseError};
-use crate::operand::{Name, Operand};
+use crate::name::Name;
+use crate::operand::{FileName, Operand};
+use plain::NewRow;
 use road::design::RoadDesign;
 use text::words::words_of;
 
-// More words than any command has.
-const MOST_WORDS: usize = 8;
+// The most words of a line that are read, more than any command but `limit` has.
+pub const MOST_WORDS: usize = 64;
 
 // The words of a line, and the place of the one that is read next.
 #[derive(Drop)]
@@ -37,8 +43,7 @@ impl<'a> Cursor<'_, 'a> {
 
     // Reads the word at the place.
     fn operand<T: Operand>(&mut self) -> Result<T, ParseError<'a>>
-        ensures read { Got self.old.words.now self.old.at (T.kind) (T.says) result }
-        ensures place { MatchResult result (λ _. ⊤) (λ e. (e.at ≡ self.old.at + 1) × (e.expected ≡ T.expects) × Wrong self.old.words.now e) }
+        ensures read { MatchResult result (λ x. (self.old.at < length self.old.words.now) × T.says (word self.old.words.now self.old.at) x) (λ e. Blames self.old.words.now e × (e.at ≡ self.old.at + 1) × (e.expected ≡ T.expects) × Wrong self.old.words.now e) }
         ensures next { OnOk result ((self.new.words ≡ self.old.words) × (self.new.at ≡ self.old.at + 1)) }
     {
         let value = self
@@ -52,7 +57,7 @@ impl<'a> Cursor<'_, 'a> {
 
     // That the line ends at the place.
     fn end(&self) -> Result<(), ParseError<'a>>
-        ensures { MatchResult result (λ _. length self.now.words.now ≡ self.now.at) (λ e. Blames self.now.words.now e × (self.now.at < length self.now.words.now) × (e.at ≡ self.now.at + 1) × (e.expected ≡ want.EndOfLine) × Wrong self.now.words.now e) }
+        ensures { MatchResult result (λ _. length self.now.words.now ≡ self.now.at) (λ e. Blames self.now.words.now e × (e.at ≡ self.now.at + 1) × (e.expected ≡ want.EndOfLine) × Wrong self.now.words.now e) }
     {
         if self.at < self.words.len() {
             return Err(self.wrong(Expected::EndOfLine));
@@ -60,9 +65,23 @@ impl<'a> Cursor<'_, 'a> {
         Ok(())
     }
 
+    // Reads `before N`, or nothing where the line ends at the place.
+    fn before(&mut self) -> Result<Option<u32>, ParseError<'a>>
+        ensures { MatchResult result (λ n. BeforeFrom self.old.words.now self.old.at n) (λ e. Blames self.old.words.now e × BeforeAt self.old.at e.at e.expected × Wrong self.old.words.now e) }
+    {
+        match self.words.get(self.at) {
+            None => return Ok(None),
+            Some(&"before") => self.at += 1,
+            Some(_) => return Err(self.wrong(Expected::Before)),
+        }
+        let row = self.operand()?;
+        self.end()?;
+        Ok(Some(row))
+    }
+
     fn road(&mut self) -> Result<Command, ParseError<'a>>
         requires { (self.old.at ≡ 1) × (word self.old.words.now 0 ≡ codes "road") }
-        ensures { ReadAs (RoadForm) (road_place) self.old.words.now result }
+        ensures { ReadAs name.Road self.old.words.now result }
     {
         let design = RoadDesign {
             class: self.operand()?,
@@ -77,12 +96,103 @@ impl<'a> Cursor<'_, 'a> {
 
     fn label(&mut self) -> Result<Command, ParseError<'a>>
         requires { (self.old.at ≡ 1) × (word self.old.words.now 0 ≡ codes "label") }
-        ensures { ReadAs (LabelForm) (label_place) self.old.words.now result }
+        ensures { ReadAs name.Label self.old.words.now result }
     {
         let radius = self.operand()?;
         let turn = self.operand()?;
         self.end()?;
         Ok(Command::Label { radius, turn })
+    }
+
+    fn straight(&mut self) -> Result<Command, ParseError<'a>>
+        requires { (self.old.at ≡ 1) × (word self.old.words.now 0 ≡ codes "straight") }
+        ensures { ReadAs name.Straight self.old.words.now result }
+    {
+        let length = self.operand()?;
+        let row = NewRow::Straight { length };
+        let before = self.before()?;
+        Ok(Command::Sheet(SheetCommand::Add { row, before }))
+    }
+
+    fn curve(&mut self) -> Result<Command, ParseError<'a>>
+        requires { (self.old.at ≡ 1) × (word self.old.words.now 0 ≡ codes "curve") }
+        ensures { ReadAs name.Curve self.old.words.now result }
+    {
+        let sense = self.operand()?;
+        let radius = self.operand()?;
+        let turn = self.operand()?;
+        let row = NewRow::Curve {
+            sense,
+            radius,
+            turn,
+        };
+        let before = self.before()?;
+        Ok(Command::Sheet(SheetCommand::Add { row, before }))
+    }
+
+    fn remove(&mut self) -> Result<Command, ParseError<'a>>
+        requires { (self.old.at ≡ 1) × (word self.old.words.now 0 ≡ codes "remove") }
+        ensures { ReadAs name.Remove self.old.words.now result }
+    {
+        let row = self.operand()?;
+        self.end()?;
+        Ok(Command::Sheet(SheetCommand::Remove { row }))
+    }
+
+    fn set(&mut self) -> Result<Command, ParseError<'a>>
+        requires { (self.old.at ≡ 1) × (word self.old.words.now 0 ≡ codes "set") }
+        ensures { ReadAs name.Set self.old.words.now result }
+    {
+        let row = self.operand()?;
+        let entry = self.operand()?;
+        let exit = self.operand()?;
+        self.end()?;
+        Ok(Command::Sheet(SheetCommand::Set { row, entry, exit }))
+    }
+
+    fn rows(&self) -> Result<Command, ParseError<'a>>
+        requires { (self.now.at ≡ 1) × (word self.now.words.now 0 ≡ codes "rows") }
+        ensures { ReadAs name.Rows self.now.words.now result }
+    {
+        self.end()?;
+        Ok(Command::Rows)
+    }
+
+    fn check(&self) -> Result<Command, ParseError<'a>>
+        requires { (self.now.at ≡ 1) × (word self.now.words.now 0 ≡ codes "check") }
+        ensures { ReadAs name.Check self.now.words.now result }
+    {
+        self.end()?;
+        Ok(Command::Sheet(SheetCommand::Check))
+    }
+
+    // Reads a limit's name, and the name of a file after `table`.
+    fn limit_name(&mut self) -> Result<(), ParseError<'a>>
+        requires { (1 ≤ self.old.at) × ((self.old.at ≡ 1) ⊎ (self.old.at < length self.old.words.now)) × NamesBefore self.old.words.now (self.old.at + 1) }
+        ensures read { MatchResult result (λ _. NamesBefore self.new.words.now (self.new.at + 1)) (λ e. Blames self.old.words.now e × (1 < e.at) × LimitAt self.old.words.now e.at e.expected × Wrong self.old.words.now e) }
+        ensures next { OnOk result ((self.new.words ≡ self.old.words) × (self.old.at < self.new.at)) }
+    {
+        let LimitName::Table = self.operand()? else {
+            return Ok(());
+        };
+        let FileName = self.operand()?;
+        Ok(())
+    }
+
+    // A line of 64 words may have been cut.
+    fn limit(&mut self) -> Result<Command, ParseError<'a>>
+        requires { (self.old.at ≡ 1) × (word self.old.words.now 0 ≡ codes "limit") }
+        ensures { ReadAs name.Limit self.old.words.now result }
+    {
+        if self.words.len() >= MOST_WORDS {
+            self.at = MOST_WORDS - 1;
+            return Err(self.wrong(Expected::EndOfLine));
+        }
+        self.limit_name()?;
+        while self.at < self.words.len() {
+            self.limit_name()?;
+        }
+        Ok(Command::Limit)
     }
 }
 
@@ -94,6 +204,13 @@ fn command<'a>(words: &[&'a str]) -> Result<Command, ParseError<'a>>
     match cursor.operand()? {
         Name::Road => cursor.road(),
         Name::Label => cursor.label(),
+        Name::Straight => cursor.straight(),
+        Name::Curve => cursor.curve(),
+        Name::Remove => cursor.remove(),
+        Name::Set => cursor.set(),
+        Name::Rows => cursor.rows(),
+        Name::Limit => cursor.limit(),
+        Name::Check => cursor.check(),
     }
 }
 
@@ -104,13 +221,13 @@ fn answer<'a>(words: &[&'a str]) -> Result<Option<Command>, ParseError<'a>>
     match words {
         [] => Ok(None),
         [first, ..] if first.starts_with('#') => Ok(None),
-        _ => command(words).map(Some),
+        _ => Ok(Some(command(words)?)),
     }
 }
 
 // The command that the line says; `None` for a blank line and for one whose first word begins with '#'.
 pub fn parse_line(line: &str) -> Result<Option<Command>, ParseError<'_>>
-    ensures { (ws : List (Bor (List ℕ))) × Words 8 line.now ws × Answers ws result }
+    ensures { (ws : List (Bor (List ℕ))) × Words 64 line.now ws × Answers ws result }
 {
     let mut words = [""; MOST_WORDS];
     let count = words_of(line, &mut words);

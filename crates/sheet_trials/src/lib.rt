@@ -2,10 +2,14 @@
 #![tactic(auto)]
 
 #[cfg(test)]
-mod checks;
-#[cfg(test)]
-mod edits;
+mod clothoids;
 #[cfg(test)]
 mod made;
 #[cfg(test)]
+mod memories;
+#[cfg(test)]
+mod radii;
+#[cfg(test)]
 mod refusals;
+#[cfg(test)]
+mod runs;

@@ -1,5 +1,5 @@
 // Each refusal, with the memories compared before and after.
-use crate::made::{UNUSED, road};
+use crate::made::{UNUSED, curve, road, straight};
 use norma::compulsory::COMPULSORY;
 use plain::NewRow;
 use road::class::Class;
@@ -51,16 +51,54 @@ fn added_in_order(rt: HostRuntime) -> Result<(), Fail> {
     Ok(())
 }
 
+// The draft has its three rows, and the memory what it had.
+fn unchanged(rt: &impl Abort, draft: &Draft, rows: &[RowRecord; 4]) {
+    assert_eq!(rt; draft.len(), 3);
+    assert_eq!(rt; *rows, ROWS);
+}
+
+// Adding is refused in so many slots of the memory.
 fn refused_adding(
     rt: &impl Abort,
+    slots: usize,
     place: usize,
     new: NewRow,
     refusal: Refusal,
 ) -> Result<(), Fail> {
     let (mut draft, mut rows) = draft()?;
-    assert_eq!(rt; draft.add(&mut rows, place, new), Err(refusal));
-    assert_eq!(rt; draft.len(), 3);
-    assert_eq!(rt; rows, ROWS);
+    let lent = slots.min(rows.len());
+    assert_eq!(rt; draft.add(&mut rows[0..lent], place, new), Err(refusal));
+    unchanged(rt, &draft, &rows);
+    Ok(())
+}
+
+fn refused_taking_out(
+    rt: &impl Abort,
+    slots: usize,
+    row: usize,
+    refusal: Refusal,
+) -> Result<(), Fail> {
+    let (mut draft, mut rows) = draft()?;
+    let lent = slots.min(rows.len());
+    assert_eq!(rt; draft.take_out(&mut rows[0..lent], row), Err(refusal));
+    unchanged(rt, &draft, &rows);
+    Ok(())
+}
+
+fn refused_setting(
+    rt: &impl Abort,
+    slots: usize,
+    row: usize,
+    lengths: (u32, u32),
+    refusal: Refusal,
+) -> Result<(), Fail> {
+    let (mut draft, mut rows) = draft()?;
+    let lent = slots.min(rows.len());
+    assert_eq!(rt;
+        draft.set_lengths(&mut rows[0..lent], row, lengths.0, lengths.1),
+        Err(refusal)
+    );
+    unchanged(rt, &draft, &rows);
     Ok(())
 }
 
@@ -69,6 +107,7 @@ fn adding_numbers(rt: HostRuntime) -> Result<(), Fail> {
     for length in [0, 20_000_001, u32::MAX] {
         refused_adding(
             &rt,
+            2,
             9,
             NewRow::Straight { length },
             Refusal::StraightLength { row: 9 },
@@ -80,7 +119,7 @@ fn adding_numbers(rt: HostRuntime) -> Result<(), Fail> {
             radius,
             turn: 0,
         };
-        refused_adding(&rt, 9, new, Refusal::Radius { row: 9 })?;
+        refused_adding(&rt, 2, 9, new, Refusal::Radius { row: 9 })?;
     }
     for turn in [0, 2_000_001, u32::MAX] {
         let new = NewRow::Curve {
@@ -88,7 +127,7 @@ fn adding_numbers(rt: HostRuntime) -> Result<(), Fail> {
             radius: 1_000,
             turn,
         };
-        refused_adding(&rt, 9, new, Refusal::Turn { row: 9 })?;
+        refused_adding(&rt, 2, 9, new, Refusal::Turn { row: 9 })?;
     }
     Ok(())
 }
@@ -96,52 +135,31 @@ fn adding_numbers(rt: HostRuntime) -> Result<(), Fail> {
 #[test]
 fn adding_places(rt: HostRuntime) -> Result<(), Fail> {
     let new = NewRow::Straight { length: 20_000_000 };
-    refused_adding(&rt, 4, new, Refusal::NoSuchPlace { row: 4 })?;
-    refused_adding(
-        &rt,
-        usize::MAX,
-        new,
-        Refusal::NoSuchPlace { row: usize::MAX },
-    )?;
-    // the memory is shorter than the count, and then just filled
+    // the memory is shorter than the count
+    refused_adding(&rt, 2, 9, new, Refusal::ShortMemory { row: 9 })?;
+    refused_adding(&rt, 0, 0, new, Refusal::ShortMemory { row: 0 })?;
+    // the place is beyond the count, be there room or not
+    let last = usize::MAX;
+    refused_adding(&rt, 4, 4, new, Refusal::NoSuchPlace { row: 4 })?;
+    refused_adding(&rt, 3, last, new, Refusal::NoSuchPlace { row: last })?;
+    // the rows fill the memory
+    refused_adding(&rt, 3, 3, new, Refusal::Full { row: 3 })?;
+    refused_adding(&rt, 3, 0, new, Refusal::Full { row: 0 })?;
     let (mut draft, mut rows) = draft()?;
-    assert_eq!(rt;
-        draft.add(&mut rows[0..2], 9, new),
-        Err(Refusal::ShortMemory { row: 9 })
-    );
-    assert_eq!(rt;
-        draft.add(&mut rows[0..0], 0, new),
-        Err(Refusal::ShortMemory { row: 0 })
-    );
-    assert_eq!(rt;
-        draft.add(&mut rows[0..3], 3, new),
-        Err(Refusal::Full { row: 3 })
-    );
-    assert_eq!(rt; rows, ROWS);
     assert_eq!(rt; draft.add(&mut rows, 3, new), Ok(()));
-    assert_eq!(rt; rows[3], RowRecord::Straight { length: 20_000_000 });
+    assert_eq!(rt; rows, [ROWS[0], ROWS[1], ROWS[2], straight(20_000_000)]);
     assert_eq!(rt; draft.add(&mut rows, 0, new), Err(Refusal::Full { row: 0 }));
     Ok(())
 }
 
 #[test]
 fn taking_out(rt: HostRuntime) -> Result<(), Fail> {
-    let (mut draft, mut rows) = draft()?;
-    assert_eq!(rt;
-        draft.take_out(&mut rows, 3),
-        Err(Refusal::NoSuchPlace { row: 3 })
-    );
-    assert_eq!(rt;
-        draft.take_out(&mut rows, usize::MAX),
-        Err(Refusal::NoSuchPlace { row: usize::MAX })
-    );
-    assert_eq!(rt;
-        draft.take_out(&mut rows[0..2], 3),
-        Err(Refusal::ShortMemory { row: 3 })
-    );
-    assert_eq!(rt; rows, ROWS);
-    assert_eq!(rt; draft.len(), 3);
+    let last = usize::MAX;
+    refused_taking_out(&rt, 2, 3, Refusal::ShortMemory { row: 3 })?;
+    refused_taking_out(&rt, 4, 3, Refusal::NoSuchPlace { row: 3 })?;
+    refused_taking_out(&rt, 3, last, Refusal::NoSuchPlace { row: last })?;
     // the gap closes, and the freed slot gets the blank and is used again
+    let (mut draft, mut rows) = draft()?;
     assert_eq!(rt; draft.take_out(&mut rows, 0), Ok(()));
     assert_eq!(rt; draft.len(), 2);
     assert_eq!(rt; rows, [ROWS[1], ROWS[2], RowRecord::BLANK, ROWS[3]]);
@@ -149,45 +167,23 @@ fn taking_out(rt: HostRuntime) -> Result<(), Fail> {
         draft.add(&mut rows[0..3], 2, NewRow::Straight { length: 7 }),
         Ok(())
     );
-    assert_eq!(rt;
-        rows,
-        [ROWS[1], ROWS[2], RowRecord::Straight { length: 7 }, ROWS[3]]
-    );
+    assert_eq!(rt; rows, [ROWS[1], ROWS[2], straight(7), ROWS[3]]);
     Ok(())
 }
 
 #[test]
 fn setting(rt: HostRuntime) -> Result<(), Fail> {
+    let last = usize::MAX;
+    refused_setting(&rt, 2, 9, (2_000_001, 0), Refusal::HandLength { row: 9 })?;
+    refused_setting(&rt, 2, 9, (0, 2_000_001), Refusal::HandLength { row: 9 })?;
+    refused_setting(&rt, 4, 1, (0, u32::MAX), Refusal::HandLength { row: 1 })?;
+    refused_setting(&rt, 2, 9, (0, 0), Refusal::ShortMemory { row: 9 })?;
+    refused_setting(&rt, 4, 3, (0, 0), Refusal::NoSuchPlace { row: 3 })?;
+    refused_setting(&rt, 3, last, (0, 0), Refusal::NoSuchPlace { row: last })?;
+    refused_setting(&rt, 3, 2, (0, 0), Refusal::NotACurve { row: 2 })?;
     let (mut draft, mut rows) = draft()?;
-    assert_eq!(rt;
-        draft.set_lengths(&mut rows, 9, 2_000_001, 0),
-        Err(Refusal::HandLength { row: 9 })
-    );
-    assert_eq!(rt;
-        draft.set_lengths(&mut rows, 9, 0, u32::MAX),
-        Err(Refusal::HandLength { row: 9 })
-    );
-    assert_eq!(rt;
-        draft.set_lengths(&mut rows[0..2], 9, 0, 0),
-        Err(Refusal::ShortMemory { row: 9 })
-    );
-    assert_eq!(rt;
-        draft.set_lengths(&mut rows, 3, 0, 0),
-        Err(Refusal::NoSuchPlace { row: 3 })
-    );
-    assert_eq!(rt;
-        draft.set_lengths(&mut rows, 2, 0, 0),
-        Err(Refusal::NotACurve { row: 2 })
-    );
-    assert_eq!(rt; rows, ROWS);
     assert_eq!(rt; draft.set_lengths(&mut rows, 1, 2_000_000, 5), Ok(()));
-    let set = RowRecord::Curve {
-        sense: Sense::Left,
-        radius: 1_000_000,
-        turn: 300_000,
-        entry: 2_000_000,
-        exit: 5,
-    };
+    let set = curve(Sense::Left, 1_000_000, 300_000, 2_000_000, 5);
     assert_eq!(rt; rows, [ROWS[0], set, ROWS[2], ROWS[3]]);
     Ok(())
 }
@@ -206,8 +202,10 @@ fn checking(rt: HostRuntime) -> Result<(), Fail> {
         Err(Refusal::Full { row: 0 })
     );
     assert_eq!(rt; findings, [UNUSED; 3]);
+    unchanged(&rt, &draft, &rows);
     assert_eq!(rt; draft.check(&rows, &COMPULSORY, &mut findings), Ok(2));
     assert_eq!(rt; findings[2], UNUSED);
     assert_eq!(rt; draft.check(&rows, &COMPULSORY, &mut findings[0..2]), Ok(2));
+    unchanged(&rt, &draft, &rows);
     Ok(())
 }

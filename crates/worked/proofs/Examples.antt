@@ -1,5 +1,5 @@
 -- The worked curves, computed.
-use Rattle.std.proofs.Common.{◌≡◌, ℕ, Some, None, Ok, Err, Option, Result, sym, refl, ap, ◌∙◌, inl, inr, arith, lit≤}
+use Rattle.std.proofs.Common.{◌≡◌, ℕ, ◌+◌, ◌*◌, ◌<◌, Some, None, Ok, Err, Option, Result, sym, refl, ap, ◌∙◌, inl, inr, arith, lit<, lit≤}
 use Rattle.superelevation.specs.declared.group.Group.TheVariants.{One, Two, Three}
 use Rattle.superelevation.specs.Superelevation.{Superelevation, superelevation_of}
 use Rattle.superelevation.proofs.Values.{agrees, computed}
@@ -14,12 +14,15 @@ use Rattle.limits.proofs.Bracket.{smallest_by}
 use Rattle.limits.proofs.Leasts.{found}
 use Rattle.norma.specs.Formulas.{comfort, transition, azimuth, shift, fifth_of_turn, compulsory}
 use Rattle.norma.specs.Lawful.{comfort_lawful, transition_lawful, azimuth_lawful, shift_lawful, fifth_lawful}
+use Rattle.rows.specs.declared.row.Curve.{Curve}
+use Rattle.rows.specs.Curves.{place_of}
+use Rattle.findings.specs.Rules.{LeavesArc, Admitted, TooLong}
 use Rattle.road.specs.declared.refusal.Refusal.{Refusal}
 use Rattle.road.specs.Refusals.{number_of, FirstApplying}
 use Rattle.limits.specs.Places.{place_grounds}
 use Rattle.label.specs.declared.Label.{Label}
 use Rattle.label.specs.Labels.{ParameterOf, Labelled}
-use Rattle.worked.specs.Worked.{Example, ExamplePlace, Worked, example_label}
+use Rattle.worked.specs.Worked.{Example, ExamplePlace, TwoClothoids, Worked, example_label}
 
 compulsory_lawful : (place : Place) → UpToLongest (compulsory place)
 compulsory_lawful place =
@@ -68,6 +71,39 @@ module _ (place : Place) (e : ExamplePlace 1_000_000 place) where
 parameter : Parameter 1_000_000 111_112 333_335
 parameter = record { reached = lit≤ tt; least = λ other reaches. past 333_334 other (omega (arith, reaches)) }
 
+tight_bank : Superelevation Two 450_000 800
+tight_bank = record {
+  tight = λ h. refl;
+  formula = λ h k. absurd (omega arith);
+  wide = λ h k. absurd (omega arith);
+  level = λ h. absurd (omega arith);
+}
+
+-- the least compulsory length of a curve of 450 m on the example road, where the superelevation is the top
+module _ (road : Road) (c : Curve) (e : Example road) (at : c.radius ≡ 450_000) where
+  top_bank : superelevation_of road.group c.radius ≡ 800
+  top_bank = rw (group_is road e, at) (sym (agrees Two 450_000 800 tight_bank))
+
+  tight_least : Smallest (Admitted road compulsory c) 73_485
+  tight_least =
+      smallest_by 73_484 (compulsory_lawful (place_of road c)) (rw (e.its_speed, e.its_edge, e.factor, e.jerk, top_bank, at) tt)
+      (λ t. rw (e.its_speed, e.its_edge, e.factor, e.jerk, top_bank, at) at t)
+
+  longest : TooLong road compulsory c 110_227 → ⊥
+  longest (m, smallest, above) = above (omega (arith, smallest.least 73_485 tight_least.admitted, tight_least.least m smallest.admitted))
+
+  too_long : TooLong road compulsory c 110_228
+  too_long = (73_485, tight_least, λ h. omega arith)
+
+-- an arc of 1,000 m between two clothoids of 111,112 mm
+arc_left : (c : Curve) → TwoClothoids c → c.turn ≡ 70_734 → LeavesArc c
+arc_left c t w = rw (t.its_radius, t.its_entry, t.its_exit, w) (lit< tt)
+
+no_arc : (c : Curve) → TwoClothoids c → c.turn ≡ 70_733 → LeavesArc c → ⊥
+no_arc c t w left =
+    let here : 318_300 * (111_112 + 111_112) < 70_733 * 1_000_000 = rw (t.its_radius, t.its_entry, t.its_exit, w) at left in
+    omega arith
+
 pub worked : Worked
 worked = record {
   conventional = conventional;
@@ -87,6 +123,11 @@ worked = record {
   parameter = parameter;
   azimuth_meets = λ place is. smallest_by 107_999 (azimuth_lawful place) (rw is tt) (λ t. rw is at t);
   shift_meets = λ place is. smallest_by 107_999 (shift_lawful place) (rw is tt) (λ t. rw is at t);
+  arc_left = arc_left;
+  no_arc = no_arc;
+  tight_least = tight_least;
+  longest = longest;
+  too_long = too_long;
 }
 
 parameter_is : (radius : ℕ) (least found : Option ℕ) → radius ≡ 1_000_000 → least ≡ Some 111_112 → ParameterOf radius least found → found ≡ Some 333_335

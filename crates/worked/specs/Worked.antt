@@ -11,7 +11,9 @@ use Rattle.road.specs.Opening.{Holds}
 use Rattle.limits.specs.declared.place.Place.{Place}
 use Rattle.limits.specs.Admission.{In}
 use Rattle.limits.specs.Least.{Smallest}
-use Rattle.norma.specs.Formulas.{comfort, transition, azimuth, shift, fifth_of_turn}
+use Rattle.norma.specs.Formulas.{comfort, transition, azimuth, shift, fifth_of_turn, compulsory}
+use Rattle.rows.specs.declared.row.Curve.{Curve}
+use Rattle.findings.specs.Rules.{LeavesArc, Admitted, TooLong}
 use Rattle.label.specs.declared.Label.{Label}
 
 -- The example road: C-100, edge distance 3,500 mm, one lane turning, the usual J.
@@ -26,6 +28,12 @@ pub record ExamplePlace (radius : ℕ) (place : Place) : Type 0 where
   pub its_road : Example place.road
   pub its_radius : place.radius ≡ radius
   pub its_turn : place.turn ≡ 300_000
+
+-- A curve of 1,000 m with clothoids of 111,112 mm at both ends.
+pub record TwoClothoids (c : Curve) : Type 0 where
+  pub its_radius : c.radius ≡ 1_000_000
+  pub its_entry : c.entry ≡ 111_112
+  pub its_exit : c.exit ≡ 111_112
 
 pub record Worked : Type 0 where
   -- superelevations: on the example road, in the first group, and where the third group's formula ends
@@ -44,6 +52,13 @@ pub record Worked : Type 0 where
   -- azimuth and shift want the same at 972 m, on every road
   pub azimuth_meets : (place : Place) → place.radius ≡ 972_000 → Smallest (In (azimuth place)) 108_000
   pub shift_meets : (place : Place) → place.radius ≡ 972_000 → Smallest (In (shift place)) 108_000
+  -- two clothoids of 111,112 mm leave an arc of 1,000 m at a turn of 7.0734 gon, and none at 7.0733
+  pub arc_left : (c : Curve) → TwoClothoids c → c.turn ≡ 70_734 → LeavesArc c
+  pub no_arc : (c : Curve) → TwoClothoids c → c.turn ≡ 70_733 → LeavesArc c → ⊥
+  -- on the example road the least compulsory length at 450 m is 73,485, so that 110,227 is not too long, and 110,228 is
+  pub tight_least : (road : Road) (c : Curve) → Example road → c.radius ≡ 450_000 → Smallest (Admitted road compulsory c) 73_485
+  pub longest : (road : Road) (c : Curve) → Example road → c.radius ≡ 450_000 → TooLong road compulsory c 110_227 → ⊥
+  pub too_long : (road : Road) (c : Curve) → Example road → c.radius ≡ 450_000 → TooLong road compulsory c 110_228
 
 -- The label of the example curve of 1,000 m.
 abbrev pub example_label : Label

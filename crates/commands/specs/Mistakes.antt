@@ -1,0 +1,80 @@
+-- Which word of a line is wrong, and what had to stand there.
+use Rattle.std.specs.Prelude.{◌≡◌, ℕ, ◌+◌, ◌-◌, ◌<◌, ◌≤◌, ◌⊎◌, List, [], ◌∷◌, length, take, drop, Some, codes, MatchOption, slice_get}
+use Rattle.std.specs.Borrow.{Bor}
+use Rattle.std.specs.Str.Parse.{IsNumeral}
+use Rattle.road.specs.Words.{class_word}
+use Rattle.road.specs.declared.class.Class.{Class}
+use Rattle.road.specs.declared.jerk.JerkChoice.{JerkChoice}
+use Rattle.rows.specs.declared.row.Sense.{Sense}
+use Rattle.commands.specs.declared.name.Name.{Name}
+use Rattle.commands.specs.declared.name.Name.TheVariants.{Road, Label, Straight, Curve, Remove, Set, Rows, Limit, Check}
+use Rattle.commands.specs.declared.mistake.Expected.{Expected}
+use Rattle.commands.specs.declared.mistake.Expected.TheVariants as want
+use Rattle.commands.specs.declared.mistake.ParseError.{ParseError}
+use Rattle.commands.specs.Names.{name_word, ALimit, Names}
+use Rattle.commands.specs.Words.{word, choice_word, sense_word}
+
+-- the error names a word of the line and its place, counted from 1, or the place after the last word
+abbrev pub Blames : List (Bor (List ℕ)) → ParseError → Type 0
+Blames ws e =
+    MatchOption e.word (e.at ≡ length ws + 1) (λ w. (0 < e.at) × (e.at ≤ length ws) × (w.now ≡ word ws (e.at - 1)))
+
+-- w is what is expected
+abbrev pub Wanted : Expected → List ℕ → Type 0
+Wanted want.Command w = (name : Name) × (w ≡ name_word name)
+Wanted want.Class w = (class : Class) × (w ≡ class_word class)
+Wanted want.Number w = IsNumeral 10 w
+Wanted want.JerkChoice w = (choice : JerkChoice) × (w ≡ choice_word choice)
+Wanted want.Sense w = (sense : Sense) × (w ≡ sense_word sense)
+Wanted want.Before w = w ≡ codes "before"
+Wanted want.LimitName w = ALimit w
+Wanted want.FileName w = Unit {0}
+Wanted want.EndOfLine w = ⊥
+
+-- the line may end where this is expected
+abbrev pub MayEnd : Expected → Type 0
+MayEnd want.Before = Unit {0}
+MayEnd want.EndOfLine = Unit {0}
+MayEnd x = ⊥
+
+-- what stands at the error's place, a word or the end of the line, is not what should have stood there
+abbrev pub Wrong : List (Bor (List ℕ)) → ParseError → Type 0
+Wrong ws e =
+    (e.at ≤ length ws → Wanted e.expected (word ws (e.at - 1)) → ⊥) × (e.at ≡ length ws + 1 → MayEnd e.expected → ⊥)
+
+-- x is the one of the list that stands at the place, where the first stands at the second place of a line
+abbrev pub In : List Expected → ℕ → Expected → Type 0
+In xs at x = slice_get xs (at - 2) ≡ Some x
+
+-- what stands at a place after place i, where the words may be `before N`
+abbrev pub BeforeAt : ℕ → ℕ → Expected → Type 0
+BeforeAt i at x = ((at ≡ i + 1) × (x ≡ want.Before)) ⊎ ((at ≡ i + 2) × (x ≡ want.Number)) ⊎ ((at ≡ i + 3) × (x ≡ want.EndOfLine))
+
+-- the words after the first and before the place are names of limits
+abbrev pub NamesBefore : List (Bor (List ℕ)) → ℕ → Type 0
+NamesBefore ws at = Names (take (at - 2) (drop 1 ws))
+
+-- what stands at a place of a `limit` line, where a line of 64 words may have been cut
+abbrev pub LimitAt : List (Bor (List ℕ)) → ℕ → Expected → Type 0
+LimitAt ws at want.LimitName = NamesBefore ws at × ((at ≡ 2) ⊎ (at ≤ length ws))
+LimitAt ws at want.FileName = (2 < at) × NamesBefore ws (at - 1) × (word ws (at - 2) ≡ codes "table")
+LimitAt ws at want.EndOfLine = at ≡ 64
+LimitAt ws at x = ⊥
+
+-- what stands at a place of a command's line, counted from 1
+abbrev pub StandsAt : Name → List (Bor (List ℕ)) → ℕ → Expected → Type 0
+StandsAt Road ws = In (want.Class ∷ want.Number ∷ want.Number ∷ want.Number ∷ want.JerkChoice ∷ want.EndOfLine ∷ [])
+StandsAt Label ws = In (want.Number ∷ want.Number ∷ want.EndOfLine ∷ [])
+StandsAt Straight ws = In (want.Number ∷ want.Before ∷ want.Number ∷ want.EndOfLine ∷ [])
+StandsAt Curve ws = In (want.Sense ∷ want.Number ∷ want.Number ∷ want.Before ∷ want.Number ∷ want.EndOfLine ∷ [])
+StandsAt Remove ws = In (want.Number ∷ want.EndOfLine ∷ [])
+StandsAt Set ws = In (want.Number ∷ want.Number ∷ want.Number ∷ want.EndOfLine ∷ [])
+StandsAt Rows ws = In (want.EndOfLine ∷ [])
+StandsAt Check ws = In (want.EndOfLine ∷ [])
+StandsAt Limit ws = LimitAt ws
+
+-- the error says what should have stood at its place: a command's name, or what the command that is named has there
+abbrev pub Expects : List (Bor (List ℕ)) → ParseError → Type 0
+Expects ws e =
+    ((e.at ≡ 1) × (e.expected ≡ want.Command))
+    ⊎ ((name : Name) × (word ws 0 ≡ name_word name) × (1 < e.at) × StandsAt name ws e.at e.expected)

@@ -1,0 +1,6 @@
+// The open sheet, the memory that it lies in, and the limits in force for it; and what commands do with them.
+#![tactic(auto)]
+
+mod calls;
+pub mod desk;
+mod listing;
