@@ -1,1 +1,2 @@
+pub mod SetOut
 pub mod Shown

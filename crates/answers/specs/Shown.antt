@@ -1,4 +1,4 @@
--- How answers are shown, commands without one, and rows.
+-- How answers are shown, commands without one, rows, and what is set out of them.
 use Rattle.std.specs.Prelude.{ℕ, List, [], ◌∷◌, ◌++◌, Option, Some, None, codes, decimal}
 use Rattle.superelevation.specs.Superelevation.{group_number}
 use Rattle.road.specs.declared.road.Road.{Road}
@@ -6,14 +6,17 @@ use Rattle.road.specs.Words.{class_word}
 use Rattle.label.specs.declared.Label.{Label}
 use Rattle.rows.specs.declared.row.Row.{Row}
 use Rattle.rows.specs.declared.row.Row.TheVariants.{Straight, Curve}
+use Rattle.rows.specs.Ends.{end_word}
 use Rattle.commands.specs.Names.{name_word}
 use Rattle.commands.specs.Words.{sense_word}
 use Rattle.answers.specs.declared.answer.Answer.{Answer}
-use Rattle.answers.specs.declared.answer.Answer.TheVariants.{Opened, Labelled, Added, Removed, LengthsSet, Found}
+use Rattle.answers.specs.declared.answer.Answer.TheVariants.{Opened, Labelled, Added, Removed, LengthsSet, Found, Fitted, Parameter, Reopened}
 use Rattle.road.specs.Refusals.{number_of, row_of}
 use Rattle.road.specs.Words.{reason_of}
 use Rattle.answers.specs.declared.failure.Failure.{Failure}
-use Rattle.answers.specs.declared.failure.Failure.TheVariants.{Refused, NoRoad}
+use Rattle.answers.specs.declared.failure.Failure.TheVariants as failure
+use Rattle.answers.specs.declared.set_out.SetOut.{SetOut}
+use Rattle.answers.specs.declared.set_out.SetOut.TheVariants as set_out
 
 -- Texts one after another.
 abbrev pub joined : List (List ℕ) → List ℕ
@@ -21,12 +24,16 @@ joined [] = []
 joined (text ∷ []) = text
 joined (text ∷ next ∷ texts) = text ++ joined (next ∷ texts)
 
--- A refusal is shown by its number, the row that it names, and its reason; a command without an open road by its name, the first word of its line.
+-- A refusal is shown by its number, the row that it names, and its reason; a command that the sheet does not allow by its name, the first word of its line.
 abbrev pub failure_text : Failure → List ℕ
-failure_text (Refused refusal) =
+failure_text (failure.Refused refusal) =
     joined (codes "refused " ∷ decimal (number_of refusal) ∷ codes " " ∷ decimal (row_of refusal) ∷ codes ": " ∷ reason_of refusal ∷ [])
-failure_text (NoRoad name) =
+failure_text (failure.NoRoad name) =
     joined (codes "word 1 is '" ∷ name_word name ∷ codes "', and no road is open: begin with road CLASS SPEED B LANES usual|top" ∷ [])
+failure_text (failure.Fitted name) =
+    joined (codes "word 1 is '" ∷ name_word name ∷ codes "', and the sheet is fitted: reopen it first" ∷ [])
+failure_text (failure.Draft name) =
+    joined (codes "word 1 is '" ∷ name_word name ∷ codes "', and the sheet is a draft: fit it first" ∷ [])
 
 -- A length, or that there is none.
 abbrev pub length_text : Option ℕ → List ℕ
@@ -68,6 +75,10 @@ answer_text (Added row) = codes "added " ++ decimal row
 answer_text (Removed row) = codes "removed " ++ decimal row
 answer_text (LengthsSet row) = codes "set " ++ decimal row
 answer_text (Found count) = codes "findings " ++ decimal count
+answer_text (Fitted count) = codes "fitted " ++ decimal count
+answer_text (Parameter row at parameter) =
+    joined (codes "parameter " ∷ decimal row ∷ codes " " ∷ end_word at ∷ codes " " ∷ decimal parameter ∷ [])
+answer_text Reopened = codes "reopened"
 
 -- A row with its place, as a line.
 abbrev pub row_text : (place : ℕ) → Row → List ℕ
@@ -81,5 +92,20 @@ row_text place (Curve c) =
     ∷ codes " " ∷ decimal c.turn
     ∷ codes " " ∷ decimal c.entry
     ∷ codes " " ∷ decimal c.exit
+    ∷ []
+    )
+
+-- A line of the setting-out list: its place and length, and for a curve each clothoid's length and parameter.
+abbrev pub set_out_text : SetOut → List ℕ
+set_out_text (set_out.Straight place length) =
+    joined (codes "S " ∷ decimal place ∷ codes " " ∷ decimal length ∷ [])
+set_out_text (set_out.Curve place entry entry_parameter exit exit_parameter) =
+    joined
+    (
+    codes "V " ∷ decimal place
+    ∷ codes " " ∷ decimal entry
+    ∷ codes " " ∷ decimal entry_parameter
+    ∷ codes " " ∷ decimal exit
+    ∷ codes " " ∷ decimal exit_parameter
     ∷ []
     )

@@ -5,6 +5,7 @@ ghost use Rattle.answers.specs.Shown.{length_text, road_text, label_text, answer
 
 use label::Label;
 use road::road::Road;
+use rows::end::End;
 use std::fmt;
 
 #[derive(Clone, Copy)]
@@ -28,6 +29,18 @@ pub enum Answer {
     Found {
         count: usize,
     },
+    // so many rows
+    Fitted {
+        count: usize,
+    },
+    // of the clothoid at an end of a curve
+    Parameter {
+        row: usize,
+        at: End,
+        // mm
+        parameter: u32,
+    },
+    Reopened,
 }
 
 // A length, or that there is none. A type of its own, since how an `Option` is shown is not ours to say.
@@ -97,6 +110,12 @@ impl fmt::Display for Answer {
             Answer::Removed { row } => write!(f, "removed {row}"),
             Answer::LengthsSet { row } => write!(f, "set {row}"),
             Answer::Found { count } => write!(f, "findings {count}"),
+            Answer::Fitted { count } => write!(f, "fitted {count}"),
+            Answer::Parameter { row, at, parameter } => write!(
+                f,
+                "parameter {row} {at} {parameter}"
+            ),
+            Answer::Reopened => f.write_str("reopened"),
         }
     }
 }

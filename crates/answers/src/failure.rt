@@ -13,6 +13,10 @@ pub enum Failure {
     Refused(Refusal),
     // the command of this name speaks of the open road, and there is none
     NoRoad(Name),
+    // the command of this name is for a draft, and the sheet is fitted
+    Fitted(Name),
+    // the command of this name is for a fitted sheet, and the sheet is a draft
+    Draft(Name),
 }
 
 impl From<Refusal> for Failure {
@@ -36,6 +40,14 @@ impl fmt::Display for Failure {
             Failure::NoRoad(name) => write!(
                 f,
                 "word 1 is '{name}', and no road is open: begin with road CLASS SPEED B LANES usual|top"
+            ),
+            Failure::Fitted(name) => write!(
+                f,
+                "word 1 is '{name}', and the sheet is fitted: reopen it first"
+            ),
+            Failure::Draft(name) => write!(
+                f,
+                "word 1 is '{name}', and the sheet is a draft: fit it first"
             ),
         }
     }

@@ -3,4 +3,5 @@
 
 pub mod answer;
 pub mod failure;
+pub mod set_out;
 pub mod shown_row;

@@ -64,10 +64,33 @@ Rows are counted from 0.
       finding 0 1 exit breach: the exit clothoid of 111112 mm is not admitted; the least admitted length is 188502 mm
       findings 2
 
+  fit
+      Gives the curves the shortest clothoids that keep rules 1 to 6 under the limits,
+      and prints how many rows there are and the setting-out list: S ROW LENGTH for a
+      straight, V ROW ENTRY A EXIT A for a curve, each A the parameter of the clothoid
+      before it. Where no clothoids keep the rules, refused 12 names the first row up
+      to which there are none. A fitted sheet is not edited before it is reopened.
+      limit azimuth
+      limit azimuth
+      fit
+      fitted 1
+      V 0 111112 333335 111112 333335
+
+  parameter N entry|exit
+      The parameter of the clothoid at that end of the curve in row N of a fitted sheet.
+      parameter 0 entry
+      parameter 0 entry 333335
+
+  reopen
+      Makes a fitted sheet one that may be edited, with its lengths.
+      reopen
+      reopened
+
 Numbers are digits only. Blank lines and lines that begin with # are skipped.
 A command whose operands are refused answers 'refused NUMBER ROW: ' and the reason,
 and changes nothing. A line that is no command, or is longer than 16384 bytes, or
-speaks of a road before there is any, or names a file that cannot be read, answers
-'error LINE: ' and what is wrong with it; the other lines are still answered, and
-the program then ends with status 1.
+speaks of a road before there is any, or names a file that cannot be read, or is a
+command that a fitted sheet or a draft does not have, answers 'error LINE: ' and what
+is wrong with it; the other lines are still answered, and the program then ends with
+status 1.
 ";

@@ -1,5 +1,6 @@
 // Reads lines, and writes the answers of each part of the input before it asks for more.
 ghost use Rattle.std.specs.Prelude.{OnOk};
+ghost use Rattle.session.specs.Answering.{NoneWaits};
 ghost use Rattle.clothoid.specs.Chunks.{Carried};
 
 use anyhow::anyhow;
@@ -10,7 +11,7 @@ use text::lines::{Pending, split_line};
 // How many bytes are asked for at a time.
 const CHUNK: usize = 65_536;
 
-// Answers the lines that end in the chunk, and leaves what follows the last newline pending.
+// Answers the lines that end in the chunk, and leaves what follows the last newline pending. No call waits then.
 // That each line reaches the session is not said here, and only tested.
 fn answer_chunk<W: Write>(
     rt: &HostRuntime,
@@ -19,7 +20,8 @@ fn answer_chunk<W: Write>(
     out: &mut W,
     chunk: &[u8],
 ) -> anyhow::Result<()>
-    ensures { OnOk result (Carried pending.old chunk.now pending.new) }
+    ensures pending { OnOk result (Carried pending.old chunk.now pending.new) }
+    ensures done { OnOk result (NoneWaits session.new) }
 {
     let mut rest = chunk;
     while let Some((line, next)) = split_line(rest) {
@@ -29,6 +31,7 @@ fn answer_chunk<W: Write>(
         rest = next;
     }
     pending.add(rest)?;
+    session.flush(rt, out)?;
     Ok(())
 }
 
@@ -57,6 +60,7 @@ pub(crate) fn answer_all<R: Read + Drop>(rt: &HostRuntime, mut reader: R) -> any
     }
     if !pending.is_empty() {
         session.line(rt, &mut out, pending.line())?;
+        session.flush(rt, &mut out)?;
     }
     out.flush()?;
     Ok(session.wrong)

@@ -11,7 +11,7 @@ use Rattle.commands.specs.declared.command.Command.TheVariants as command
 use Rattle.commands.specs.declared.command.SheetCommand.TheVariants as sheet
 use Rattle.commands.specs.declared.limit_name.LimitName.TheVariants.{Table}
 use Rattle.commands.specs.declared.name.Name.{Name}
-use Rattle.commands.specs.declared.name.Name.TheVariants.{Road, Label, Straight, Curve, Remove, Set, Rows, Limit, Check}
+use Rattle.commands.specs.declared.name.Name.TheVariants.{Road, Label, Straight, Curve, Remove, Set, Rows, Limit, Check, Fit, Parameter, Reopen}
 use Rattle.commands.specs.declared.mistake.Expected.{Expected}
 use Rattle.commands.specs.declared.mistake.Expected.TheVariants as want
 use Rattle.commands.specs.declared.mistake.ParseError.{ParseError}
@@ -199,6 +199,19 @@ right ws (command.Sheet (sheet.Set row entry exit)) said at x some stands =
       ),
     ) stands
 right ws (command.Sheet sheet.Check) said at x some stands = right_in ws (want.EndOfLine ∷ []) at x some (ended ws 1 said, tt) stands
+right ws (command.Sheet sheet.Fit) said at x some stands = right_in ws (want.EndOfLine ∷ []) at x some (ended ws 1 said, tt) stands
+right ws (command.Sheet (sheet.Parameter row end)) said at x some stands =
+    right_in ws (want.Number ∷ want.End ∷ want.EndOfLine ∷ []) at x some (
+      here ws 1 want.Number said.1.0 (λ e. omega arith),
+      (
+        here ws 2 want.End (end, said.2) (λ e. omega arith),
+        (
+          ended ws 3 said.0,
+          tt,
+        ),
+      ),
+    ) stands
+right ws (command.Sheet sheet.Reopen) said at x some stands = right_in ws (want.EndOfLine ∷ []) at x some (ended ws 1 said, tt) stands
 right ws command.Rows said at x some stands = right_in ws (want.EndOfLine ∷ []) at x some (ended ws 1 said, tt) stands
 right ws command.Limit said at x some stands = right_limit ws at x said.0 said.1 said.2 some stands
 
@@ -211,7 +224,10 @@ name_called w =
     cond (bytes_eq w (codes "remove")) Remove (
     cond (bytes_eq w (codes "set")) Set (
     cond (bytes_eq w (codes "rows")) Rows (
-    cond (bytes_eq w (codes "limit")) Limit Check)))))))
+    cond (bytes_eq w (codes "limit")) Limit (
+    cond (bytes_eq w (codes "check")) Check (
+    cond (bytes_eq w (codes "fit")) Fit (
+    cond (bytes_eq w (codes "parameter")) Parameter Reopen))))))))))
 
 called : (n : Name) → name_called (name_word n) ≡ n
 unfolding name_called
@@ -224,6 +240,9 @@ called Set = refl
 called Rows = refl
 called Limit = refl
 called Check = refl
+called Fit = refl
+called Parameter = refl
+called Reopen = refl
 
 one_name : (m n : Name) → name_word m ≡ name_word n → m ≡ n
 one_name m n e = sym (called m) ∙ ap name_called e ∙ called n

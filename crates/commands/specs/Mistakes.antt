@@ -5,9 +5,11 @@ use Rattle.std.specs.Str.Parse.{IsNumeral}
 use Rattle.road.specs.Words.{class_word}
 use Rattle.road.specs.declared.class.Class.{Class}
 use Rattle.road.specs.declared.jerk.JerkChoice.{JerkChoice}
+use Rattle.rows.specs.declared.end.End.{End}
 use Rattle.rows.specs.declared.row.Sense.{Sense}
+use Rattle.rows.specs.Ends.{end_word}
 use Rattle.commands.specs.declared.name.Name.{Name}
-use Rattle.commands.specs.declared.name.Name.TheVariants.{Road, Label, Straight, Curve, Remove, Set, Rows, Limit, Check}
+use Rattle.commands.specs.declared.name.Name.TheVariants.{Road, Label, Straight, Curve, Remove, Set, Rows, Limit, Check, Fit, Parameter, Reopen}
 use Rattle.commands.specs.declared.mistake.Expected.{Expected}
 use Rattle.commands.specs.declared.mistake.Expected.TheVariants as want
 use Rattle.commands.specs.declared.mistake.ParseError.{ParseError}
@@ -26,6 +28,7 @@ Wanted want.Class w = (class : Class) × (w ≡ class_word class)
 Wanted want.Number w = IsNumeral 10 w
 Wanted want.JerkChoice w = (choice : JerkChoice) × (w ≡ choice_word choice)
 Wanted want.Sense w = (sense : Sense) × (w ≡ sense_word sense)
+Wanted want.End w = (end : End) × (w ≡ end_word end)
 Wanted want.Before w = w ≡ codes "before"
 Wanted want.LimitName w = ALimit w
 Wanted want.FileName w = Unit {0}
@@ -71,6 +74,9 @@ StandsAt Remove ws = In (want.Number ∷ want.EndOfLine ∷ [])
 StandsAt Set ws = In (want.Number ∷ want.Number ∷ want.Number ∷ want.EndOfLine ∷ [])
 StandsAt Rows ws = In (want.EndOfLine ∷ [])
 StandsAt Check ws = In (want.EndOfLine ∷ [])
+StandsAt Fit ws = In (want.EndOfLine ∷ [])
+StandsAt Parameter ws = In (want.Number ∷ want.End ∷ want.EndOfLine ∷ [])
+StandsAt Reopen ws = In (want.EndOfLine ∷ [])
 StandsAt Limit ws = LimitAt ws
 
 -- the error says what should have stood at its place: a command's name, or what the command that is named has there

@@ -4,9 +4,10 @@ use Rattle.std.specs.Borrow.{Bor}
 use Rattle.plain.specs.declared.NewRow.TheVariants as new
 use Rattle.commands.specs.declared.command.Command.{Command}
 use Rattle.commands.specs.declared.command.Command.TheVariants as command
+use Rattle.commands.specs.declared.command.SheetCommand.{SheetCommand}
 use Rattle.commands.specs.declared.command.SheetCommand.TheVariants as sheet
 use Rattle.commands.specs.declared.name.Name.{Name}
-use Rattle.commands.specs.declared.name.Name.TheVariants.{Road, Label, Straight, Curve, Remove, Set, Rows, Limit, Check}
+use Rattle.commands.specs.declared.name.Name.TheVariants.{Road, Label, Straight, Curve, Remove, Set, Rows, Limit, Check, Fit, Parameter, Reopen}
 use Rattle.commands.specs.declared.limit_name.LimitName.{LimitName}
 use Rattle.commands.specs.declared.limit_name.LimitName.TheVariants.{Comfort, Transition, Azimuth, Shift, Fifth, Table}
 
@@ -20,16 +21,26 @@ name_word Set = codes "set"
 name_word Rows = codes "rows"
 name_word Limit = codes "limit"
 name_word Check = codes "check"
+name_word Fit = codes "fit"
+name_word Parameter = codes "parameter"
+name_word Reopen = codes "reopen"
+
+-- the name of a call of the open sheet
+abbrev pub name_of_call : SheetCommand → Name
+name_of_call (sheet.Add (new.Straight length) before) = Straight
+name_of_call (sheet.Add (new.Curve sense radius turn) before) = Curve
+name_of_call (sheet.Remove row) = Remove
+name_of_call (sheet.Set row entry exit) = Set
+name_of_call sheet.Check = Check
+name_of_call sheet.Fit = Fit
+name_of_call (sheet.Parameter row at) = Parameter
+name_of_call sheet.Reopen = Reopen
 
 -- the name of a command
 abbrev pub name_of : Command → Name
 name_of (command.Road design) = Road
 name_of (command.Label radius turn) = Label
-name_of (command.Sheet (sheet.Add (new.Straight length) before)) = Straight
-name_of (command.Sheet (sheet.Add (new.Curve sense radius turn) before)) = Curve
-name_of (command.Sheet (sheet.Remove row)) = Remove
-name_of (command.Sheet (sheet.Set row entry exit)) = Set
-name_of (command.Sheet sheet.Check) = Check
+name_of (command.Sheet call) = name_of_call call
 name_of command.Rows = Rows
 name_of command.Limit = Limit
 

@@ -2,10 +2,11 @@
 use Rattle.std.specs.Prelude.{◌≡◌, ℕ, ◌+◌, ◌<◌, ◌⊎◌, List, length, drop, Some, None, Ok, Err, codes, Option, Result, MatchResult, slice_index}
 use Rattle.std.specs.Borrow.{Bor}
 use Rattle.road.specs.Words.{class_word}
+use Rattle.rows.specs.Ends.{end_word}
 use Rattle.plain.specs.declared.NewRow.TheVariants as new
 use Rattle.commands.specs.declared.command.Command.{Command}
 use Rattle.commands.specs.declared.command.Command.TheVariants.{Road, Label, Sheet, Rows, Limit}
-use Rattle.commands.specs.declared.command.SheetCommand.TheVariants.{Add, Remove, Set, Check}
+use Rattle.commands.specs.declared.command.SheetCommand.TheVariants.{Add, Remove, Set, Check, Fit, Parameter, Reopen}
 use Rattle.commands.specs.declared.name.Name.{Name}
 use Rattle.commands.specs.declared.mistake.ParseError.{ParseError}
 use Rattle.commands.specs.Names.{name_word, name_of, Names}
@@ -31,6 +32,9 @@ Operands ws (Sheet (Remove row)) = (length ws ≡ 2) × Spells (word ws 1) row
 Operands ws (Sheet (Set row entry exit)) =
     (length ws ≡ 4) × Spells (word ws 1) row × Spells (word ws 2) entry × Spells (word ws 3) exit
 Operands ws (Sheet Check) = length ws ≡ 1
+Operands ws (Sheet Fit) = length ws ≡ 1
+Operands ws (Sheet (Parameter row at)) = (length ws ≡ 3) × Spells (word ws 1) row × (word ws 2 ≡ end_word at)
+Operands ws (Sheet Reopen) = length ws ≡ 1
 Operands ws Rows = length ws ≡ 1
 Operands ws Limit = (1 < length ws) × (length ws < 64) × Names (drop 1 ws)
 

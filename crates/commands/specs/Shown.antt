@@ -7,15 +7,16 @@ use Rattle.std.specs.Str.{chars, encode_utf8_all}
 use Rattle.std.specs.Borrow.{Bor}
 use Rattle.std.specs.Fmt.{decimal}
 use Rattle.commands.specs.declared.mistake.Expected.{Expected}
-use Rattle.commands.specs.declared.mistake.Expected.TheVariants.{Command, Class, Number, JerkChoice, Sense, Before, LimitName, FileName, EndOfLine}
+use Rattle.commands.specs.declared.mistake.Expected.TheVariants.{Command, Class, Number, JerkChoice, Sense, End, Before, LimitName, FileName, EndOfLine}
 
 -- what should have stood there, in plain words
 abbrev pub expected_text : Expected → List ℕ
-expected_text Command = codes "a command: road, label, straight, curve, remove, set, rows, limit or check"
+expected_text Command = codes "a command: road, label, straight, curve, remove, set, rows, limit, check, fit, parameter or reopen"
 expected_text Class = codes "a class: A, M or C"
 expected_text Number = codes "a number: digits only"
 expected_text JerkChoice = codes "usual or top"
 expected_text Sense = codes "left or right"
+expected_text End = codes "entry or exit"
 expected_text Before = codes "before, or the end of the line"
 expected_text LimitName = codes "a limit: comfort, transition, azimuth, shift, fifth or table FILE"
 expected_text FileName = codes "the name of a file"

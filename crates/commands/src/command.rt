@@ -1,10 +1,11 @@
 // What a line can say.
 ghost use Rattle.std.specs.Prelude.{◌≡◌};
-ghost use Rattle.commands.specs.Names.{name_of};
+ghost use Rattle.commands.specs.Names.{name_of, name_of_call};
 
 use crate::name::Name;
 use plain::NewRow;
 use road::design::RoadDesign;
+use rows::end::End;
 
 // A call of the open sheet.
 #[derive(Clone, Copy)]
@@ -28,6 +29,34 @@ pub enum SheetCommand {
     },
     // asks for the findings
     Check,
+    // gives the curves their least lengths
+    Fit,
+    // asks for the parameter of a clothoid of a curve
+    Parameter {
+        row: u32,
+        at: End,
+    },
+    // makes a draft of the sheet again
+    Reopen,
+}
+
+impl SheetCommand {
+    pub fn name(&self) -> Name
+        ensures { result ≡ name_of_call self.now }
+    {
+        match self {
+            SheetCommand::Add { row, .. } => match row {
+                NewRow::Straight { .. } => Name::Straight,
+                NewRow::Curve { .. } => Name::Curve,
+            },
+            SheetCommand::Remove { .. } => Name::Remove,
+            SheetCommand::Set { .. } => Name::Set,
+            SheetCommand::Check => Name::Check,
+            SheetCommand::Fit => Name::Fit,
+            SheetCommand::Parameter { .. } => Name::Parameter,
+            SheetCommand::Reopen => Name::Reopen,
+        }
+    }
 }
 
 #[derive(Clone, Copy)]
@@ -55,13 +84,7 @@ impl Command {
         match self {
             Command::Road(_) => Name::Road,
             Command::Label { .. } => Name::Label,
-            Command::Sheet(SheetCommand::Add { row, .. }) => match row {
-                NewRow::Straight { .. } => Name::Straight,
-                NewRow::Curve { .. } => Name::Curve,
-            },
-            Command::Sheet(SheetCommand::Remove { .. }) => Name::Remove,
-            Command::Sheet(SheetCommand::Set { .. }) => Name::Set,
-            Command::Sheet(SheetCommand::Check) => Name::Check,
+            Command::Sheet(call) => call.name(),
             Command::Rows => Name::Rows,
             Command::Limit => Name::Limit,
         }

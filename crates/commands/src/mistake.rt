@@ -14,6 +14,7 @@ pub enum Expected {
     Number,
     JerkChoice,
     Sense,
+    End,
     Before,
     LimitName,
     FileName,
@@ -26,11 +27,12 @@ impl fmt::Display for Expected {
     fn fmt<W: fmt::Write>(&self, f: &mut fmt::Formatter<W>) -> fmt::Result {
         f.write_str(match self {
             Expected::Command =>
-                "a command: road, label, straight, curve, remove, set, rows, limit or check",
+                "a command: road, label, straight, curve, remove, set, rows, limit, check, fit, parameter or reopen",
             Expected::Class => "a class: A, M or C",
             Expected::Number => "a number: digits only",
             Expected::JerkChoice => "usual or top",
             Expected::Sense => "left or right",
+            Expected::End => "entry or exit",
             Expected::Before => "before, or the end of the line",
             Expected::LimitName =>
                 "a limit: comfort, transition, azimuth, shift, fifth or table FILE",

@@ -15,6 +15,9 @@ pub enum Name {
     Rows,
     Limit,
     Check,
+    Fit,
+    Parameter,
+    Reopen,
 }
 
 impl fmt::Display for Name {
@@ -31,6 +34,9 @@ impl fmt::Display for Name {
             Name::Rows => "rows",
             Name::Limit => "limit",
             Name::Check => "check",
+            Name::Fit => "fit",
+            Name::Parameter => "parameter",
+            Name::Reopen => "reopen",
         })
     }
 }

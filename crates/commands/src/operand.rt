@@ -1,6 +1,7 @@
 // What a word stands for in a command.
 ghost use Rattle.std.specs.Prelude.{◌≡◌, List, ℕ, MatchOption, ⊤};
 ghost use Rattle.road.specs.Words.{class_word};
+ghost use Rattle.rows.specs.Ends.{end_word};
 ghost use Rattle.commands.specs.Words.{Spells, choice_word, sense_word};
 ghost use Rattle.commands.specs.Names.{name_word, limit_word};
 ghost use Rattle.commands.specs.Mistakes.{Wanted, MayEnd};
@@ -12,6 +13,7 @@ use crate::mistake::Expected;
 use crate::name::Name;
 use road::class::Class;
 use road::jerk::JerkChoice;
+use rows::end::End;
 use rows::row::Sense;
 use text::number::number;
 
@@ -110,6 +112,26 @@ impl Operand for Sense {
     }
 }
 
+impl Operand for End {
+    ghost says = { λ w end. w ≡ end_word end };
+
+    ghost expects = { want.End };
+
+    ghost needed = { λ ends. ends };
+
+    fn expected() -> Expected {
+        Expected::End
+    }
+
+    fn read(word: &str) -> Option<End> {
+        match word {
+            "entry" => Some(End::Entry),
+            "exit" => Some(End::Exit),
+            _ => None,
+        }
+    }
+}
+
 impl Operand for LimitName {
     ghost says = { λ w name. w ≡ limit_word name };
 
@@ -167,6 +189,9 @@ impl Operand for Name {
             "rows" => Some(Name::Rows),
             "limit" => Some(Name::Limit),
             "check" => Some(Name::Check),
+            "fit" => Some(Name::Fit),
+            "parameter" => Some(Name::Parameter),
+            "reopen" => Some(Name::Reopen),
             _ => None,
         }
     }

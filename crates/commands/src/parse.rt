@@ -166,6 +166,32 @@ impl<'a> Cursor<'_, 'a> {
         Ok(Command::Sheet(SheetCommand::Check))
     }
 
+    fn fit(&self) -> Result<Command, ParseError<'a>>
+        requires { (self.now.at ≡ 1) × (word self.now.words.now 0 ≡ codes "fit") }
+        ensures { ReadAs name.Fit self.now.words.now result }
+    {
+        self.end()?;
+        Ok(Command::Sheet(SheetCommand::Fit))
+    }
+
+    fn parameter(&mut self) -> Result<Command, ParseError<'a>>
+        requires { (self.old.at ≡ 1) × (word self.old.words.now 0 ≡ codes "parameter") }
+        ensures { ReadAs name.Parameter self.old.words.now result }
+    {
+        let row = self.operand()?;
+        let at = self.operand()?;
+        self.end()?;
+        Ok(Command::Sheet(SheetCommand::Parameter { row, at }))
+    }
+
+    fn reopen(&self) -> Result<Command, ParseError<'a>>
+        requires { (self.now.at ≡ 1) × (word self.now.words.now 0 ≡ codes "reopen") }
+        ensures { ReadAs name.Reopen self.now.words.now result }
+    {
+        self.end()?;
+        Ok(Command::Sheet(SheetCommand::Reopen))
+    }
+
     // Reads a limit's name, and the name of a file after `table`.
     fn limit_name(&mut self) -> Result<(), ParseError<'a>>
         requires { (1 ≤ self.old.at) × ((self.old.at ≡ 1) ⊎ (self.old.at < length self.old.words.now)) × NamesBefore self.old.words.now (self.old.at + 1) }
@@ -211,6 +237,9 @@ fn command<'a>(words: &[&'a str]) -> Result<Command, ParseError<'a>>
         Name::Rows => cursor.rows(),
         Name::Limit => cursor.limit(),
         Name::Check => cursor.check(),
+        Name::Fit => cursor.fit(),
+        Name::Parameter => cursor.parameter(),
+        Name::Reopen => cursor.reopen(),
     }
 }
 

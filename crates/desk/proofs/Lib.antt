@@ -1,1 +1,3 @@
-pub mod Writes
+pub mod Prints
+pub mod Pages
+pub mod Stretches

@@ -1,1 +1,3 @@
 pub mod Desk
+pub mod Printing
+pub mod Stretch

@@ -1,1 +1,2 @@
 pub mod Comments
+pub mod Settling

@@ -1,67 +1,134 @@
--- What a line leaves of the desk, and how lines are counted.
-use Rattle.std.specs.Prelude.{◌≡◌, ℕ, ◌+◌, ◌-◌, ◌^◌, min, Bool, false, cond, ◌⊎◌, List, [], ◌∷◌, Some, None, Ok, Err, IsUtf8, Option, Result, ◌==◌}
+-- What a line leaves of the desk and of the stretch, and how lines are counted.
+use Rattle.std.specs.Prelude.{◌≡◌, ℕ, ◌+◌, ◌-◌, ◌^◌, min, Bool, false, cond, ◌⊎◌, List, [], ◌∷◌, ◌++◌, vec_items, Some, None, Ok, Err, IsUtf8, Option, Result, ◌==◌}
 use Rattle.std.specs.Char.{is_ascii_whitespace}
 use Rattle.std.specs.Borrow.{Bor}
 use Rattle.text.specs.Words.{Words}
+use Rattle.road.specs.declared.design.RoadDesign.{RoadDesign}
 use Rattle.commands.specs.declared.mistake.ParseError.{ParseError}
 use Rattle.commands.specs.Said.{Answers}
 use Rattle.commands.specs.declared.command.Command.{Command}
 use Rattle.commands.specs.declared.command.Command.TheVariants.{Road, Label, Sheet, Rows, Limit}
-use Rattle.commands.specs.declared.name.Name.TheVariants as names
+use Rattle.commands.specs.declared.command.SheetCommand.{SheetCommand}
 use Rattle.choice.specs.declared.in_force.LimitsInForce.{LimitsInForce}
 use Rattle.choice.specs.declared.in_force.LimitsInForce.TheVariants.{Compulsory, Named}
+use Rattle.series.specs.declared.mark.Sheet.{Sheet as RealSheet}
 use Rattle.answers.specs.declared.answer.Answer.{Answer}
 use Rattle.answers.specs.declared.failure.Failure.{Failure}
-use Rattle.answers.specs.declared.failure.Failure.TheVariants.{Refused, NoRoad}
-use Rattle.desk.specs.declared.desk.Desk.{Desk}
-use Rattle.desk.specs.Desk.{Opens, Labels, Calls, IsOpen, with_limits}
+use Rattle.answers.specs.declared.failure.Failure.TheVariants.{Refused, NoRoad, Fitted, Draft}
+use Rattle.desk.specs.Desk.{Opens, Labels, with_limits}
+use Rattle.desk.specs.Stretch.{CarriesOut}
+use Rattle.session.specs.declared.Session.{Session}
 
 -- one more, up to the greatest number of 64 bits
 abbrev pub Counted : ℕ → ℕ → Type 0
 Counted before after = after ≡ min (before + 1) (2 ^ 64 - 1)
 
--- A line that speaks of the open sheet where there is none is wrong.
-abbrev pub OpenCounted : Result (Unit {0}) Failure → ℕ → ℕ → Type 0
-OpenCounted (Ok _) before after = after ≡ before
-OpenCounted (Err failure) before after = Counted before after
-
--- A line whose command asks for an open road where there is none is wrong; any other answer is not.
+-- A line that asks for what the sheet does not allow, or for an open road where there is none, is wrong; any other answer is not.
 abbrev pub CountedBy : Result Answer Failure → ℕ → ℕ → Type 0
 CountedBy (Ok answer) before after = after ≡ before
 CountedBy (Err (Refused refusal)) before after = after ≡ before
 CountedBy (Err (NoRoad name)) before after = Counted before after
+CountedBy (Err (Fitted name)) before after = Counted before after
+CountedBy (Err (Draft name)) before after = Counted before after
+
+-- A line more is counted.
+abbrev pub with_line : Session → Session
+with_line s = record { desk = s.desk; stretch = s.stretch; lines = min (s.lines + 1) (2 ^ 64 - 1); wrong = s.wrong }
+
+-- No call waits to be made.
+abbrev pub NoneWaits : Session → Type 0
+NoneWaits s = vec_items s.stretch ≡ []
+
+-- Nothing changes; how many lines there were is said apart.
+pub record Unchanged (before after : Session) : Type 0 where
+  pub desk : after.desk ≡ before.desk
+  pub stretch : after.stretch ≡ before.stretch
+  pub wrong : after.wrong ≡ before.wrong
+
+-- A wrong line is counted, and changes nothing else.
+pub record WrongLine (before after : Session) : Type 0 where
+  pub desk : after.desk ≡ before.desk
+  pub stretch : after.stretch ≡ before.stretch
+  pub wrong : Counted before.wrong after.wrong
+
+pub record RoadLeft (design : RoadDesign) (before after : Session) : Type 0 where
+  pub answer : Result Answer Failure
+  pub opens : Opens design before.desk after.desk answer
+  pub stretch : after.stretch ≡ before.stretch
+  pub wrong : CountedBy answer before.wrong after.wrong
+
+pub record LabelLeft (radius turn : ℕ) (before after : Session) : Type 0 where
+  pub answer : Result Answer Failure
+  pub labels : Labels radius turn before.desk.sheet answer
+  pub desk : after.desk ≡ before.desk
+  pub stretch : after.stretch ≡ before.stretch
+  pub wrong : CountedBy answer before.wrong after.wrong
+
+-- A line that speaks of the open sheet where there is none is wrong.
+abbrev pub RowsLeftOn : Option RealSheet → Session → Session → Type 0
+RowsLeftOn (Some s) before after = Unchanged before after
+RowsLeftOn None before after = WrongLine before after
+
+abbrev pub RowsLeft : Session → Session → Type 0
+RowsLeft before after = RowsLeftOn before.desk.sheet before after
 
 -- Limits that were named.
 abbrev pub AreNamed : LimitsInForce → Type 0
 AreNamed Compulsory = ⊥
 AreNamed (Named limits) = Unit {0}
 
--- Naming limits puts those that were named in force for the open sheet. Where none is open, or a file cannot be read, the line is wrong and nothing changes.
-abbrev pub Chosen : Desk → ℕ → Desk → ℕ → Type 0
-Chosen desk wrong desk' wrong' =
-    (AreNamed desk'.limits × (desk' ≡ with_limits desk'.limits desk) × (wrong' ≡ wrong)) ⊎ ((desk' ≡ desk) × Counted wrong wrong')
+-- Naming limits puts those that were named in force for the open sheet. Where none is open, or a file cannot be read, the line is wrong.
+pub record Chosen (before after : Session) : Type 0 where
+  pub named : AreNamed after.desk.limits
+  pub desk : after.desk ≡ with_limits after.desk.limits before.desk
+  pub stretch : after.stretch ≡ before.stretch
+  pub wrong : after.wrong ≡ before.wrong
 
--- What a command leaves of the desk, and how many lines were wrong.
-abbrev pub CommandLeft : Command → Desk → ℕ → Desk → ℕ → Type 0
-CommandLeft (Road design) desk wrong desk' wrong' = (answer : Result Answer Failure) × Opens design desk desk' answer × CountedBy answer wrong wrong'
-CommandLeft (Label radius turn) desk wrong desk' wrong' =
-    (answer : Result Answer Failure) × Labels radius turn desk.sheet answer × CountedBy answer wrong wrong' × (desk' ≡ desk)
-CommandLeft (Sheet command) desk wrong desk' wrong' =
-    (answer : Result Answer Failure) × Calls command desk.sheet desk desk' answer × CountedBy answer wrong wrong'
-CommandLeft Rows desk wrong desk' wrong' =
-    (answer : Result (Unit {0}) Failure) × IsOpen names.Rows desk.sheet answer × OpenCounted answer wrong wrong' × (desk' ≡ desk)
-CommandLeft Limit desk wrong desk' wrong' = Chosen desk wrong desk' wrong'
+abbrev pub LimitLeft : Session → Session → Type 0
+LimitLeft before after = Chosen before after ⊎ WrongLine before after
 
--- What a line leaves, by what its words say.
-abbrev pub LeftBy : Result (Option Command) ParseError → Desk → ℕ → Desk → ℕ → Type 0
-LeftBy (Ok None) desk wrong desk' wrong' = (desk' ≡ desk) × (wrong' ≡ wrong)
-LeftBy (Ok (Some command)) desk wrong desk' wrong' = CommandLeft command desk wrong desk' wrong'
-LeftBy (Err mistake) desk wrong desk' wrong' = (desk' ≡ desk) × Counted wrong wrong'
+-- A call of the open sheet is put at the end of the stretch, with the number of its line.
+pub record Put (command : SheetCommand) (before after : Session) : Type 0 where
+  pub desk : after.desk ≡ before.desk
+  pub stretch : vec_items after.stretch ≡ vec_items before.stretch ++ record { line = before.lines; command = command } ∷ []
+  pub wrong : after.wrong ≡ before.wrong
 
--- The same of a line of text.
-abbrev pub TextLeft : List ℕ → Desk → ℕ → Desk → ℕ → Type 0
-TextLeft text desk wrong desk' wrong' =
-    (ws : List (Bor (List ℕ))) × (said : Result (Option Command) ParseError) × Words 64 text ws × Answers ws said × LeftBy said desk wrong desk' wrong'
+module _ {W : Type 0} (contents : W → Option (List ℕ)) where
+  -- The stretch is carried out, and none is left; the calls that are barred count as wrong lines.
+  pub record Settled (before : Session) (out : W) (after : Session) (out' : W) : Type 0 where
+    pub barred : ℕ
+    pub carried : CarriesOut contents (vec_items before.stretch) before.desk.sheet before.desk out after.desk out' barred
+    pub stretch : NoneWaits after
+    pub wrong : after.wrong ≡ min (before.wrong + barred) (2 ^ 64 - 1)
+
+  -- The stretch is carried out before the line does anything.
+  abbrev pub Settles : (Session → Session → Type 0) → Session → W → Session → Type 0
+  Settles does before out after = (settled : Session) × (out' : W) × Settled before out settled out' × does settled after
+
+module _ {W : Type 0} (contents : W → Option (List ℕ)) where
+  -- Calls wait in the stretch while a sheet is open.
+  abbrev pub CallLeft : SheetCommand → Option RealSheet → Session → W → Session → Type 0
+  CallLeft command (Some s) before out after = Put command before after
+  CallLeft command None before out after = Settles contents WrongLine before out after
+
+  -- What a command leaves.
+  abbrev pub CommandLeft : Command → Session → W → Session → Type 0
+  CommandLeft (Road design) before out after = Settles contents (RoadLeft design) before out after
+  CommandLeft (Label radius turn) before out after = Settles contents (LabelLeft radius turn) before out after
+  CommandLeft (Sheet command) before out after = CallLeft command before.desk.sheet before out after
+  CommandLeft Rows before out after = Settles contents RowsLeft before out after
+  CommandLeft Limit before out after = Settles contents LimitLeft before out after
+
+  -- What a line leaves, by what its words say.
+  abbrev pub LeftBy : Result (Option Command) ParseError → Session → W → Session → Type 0
+  LeftBy (Ok None) before out after = Unchanged before after
+  LeftBy (Ok (Some command)) before out after = CommandLeft command before out after
+  LeftBy (Err mistake) before out after = Settles contents WrongLine before out after
+
+  -- The same of a line of text.
+  abbrev pub TextLeft : List ℕ → Session → W → Session → Type 0
+  TextLeft text before out after =
+      (ws : List (Bor (List ℕ))) × (said : Result (Option Command) ParseError) × Words 64 text ws × Answers ws said × LeftBy said before out after
 
 -- the first byte that is no white space is '#'
 abbrev pub comment_bytes : List ℕ → Bool
@@ -75,14 +142,15 @@ Marked bytes rest = bytes ≡ 239 ∷ (187 ∷ (191 ∷ rest))
 abbrev pub Unmarked : List ℕ → List ℕ → Type 0
 Unmarked bytes r = Marked bytes r ⊎ (((rest : List ℕ) → Marked bytes rest → ⊥) × (r ≡ bytes))
 
--- What a line of bytes leaves: as text what its words say; bytes that are no text are wrong, unless they are a comment.
-abbrev pub BytesLeft : List ℕ → Desk → ℕ → Desk → ℕ → Type 0
-BytesLeft bytes desk wrong desk' wrong' =
-    (IsUtf8 bytes × TextLeft bytes desk wrong desk' wrong')
-    ⊎ ((IsUtf8 bytes → ⊥) × (desk' ≡ desk) × cond (comment_bytes bytes) (wrong' ≡ wrong) (Counted wrong wrong'))
+module _ {W : Type 0} (contents : W → Option (List ℕ)) where
+  -- What a line of bytes leaves: as text what its words say; bytes that are no text are wrong, unless they are a comment.
+  abbrev pub BytesLeft : List ℕ → Session → W → Session → Type 0
+  BytesLeft bytes before out after =
+      (IsUtf8 bytes × TextLeft contents bytes before out after)
+      ⊎ ((IsUtf8 bytes → ⊥) × cond (comment_bytes bytes) (Unchanged before after) (Settles contents WrongLine before out after))
 
--- What a line leaves, where n lines came before it: one that is too long is wrong, and the first loses its mark.
-abbrev pub LineLeft : ℕ → Option (Bor (List ℕ)) → Desk → ℕ → Desk → ℕ → Type 0
-LineLeft n None desk wrong desk' wrong' = (desk' ≡ desk) × Counted wrong wrong'
-LineLeft n (Some line) desk wrong desk' wrong' =
-    (bytes : List ℕ) × cond (n == 0) (Unmarked line.now bytes) (bytes ≡ line.now) × BytesLeft bytes desk wrong desk' wrong'
+  -- What a line leaves, once it is counted: one that is too long is wrong, and the first loses its mark.
+  abbrev pub LineLeft : Option (Bor (List ℕ)) → Session → W → Session → Type 0
+  LineLeft None before out after = Settles contents WrongLine (with_line before) out after
+  LineLeft (Some line) before out after =
+      (bytes : List ℕ) × cond (before.lines == 0) (Unmarked line.now bytes) (bytes ≡ line.now) × BytesLeft bytes (with_line before) out after

@@ -1,11 +1,10 @@
-// The desk, and how many lines came and how many of them were no commands.
+// The desk, the calls that are still to be made, and how many lines came and how many of them were wrong.
 #![tactic(auto)]
 
 mod choosing;
 
-ghost use Rattle.std.specs.Prelude.{◌≡◌, None, IfOk};
-ghost use Rattle.session.specs.Answering.{Counted, CountedBy, Chosen, CommandLeft, TextLeft, BytesLeft, LineLeft, Unmarked, comment_bytes};
-ghost use Rattle.commands.specs.declared.command.Command.{Command};
+ghost use Rattle.std.specs.Prelude.{◌≡◌, None, [], IfOk, OnOk, vec_items};
+ghost use Rattle.session.specs.Answering.{Counted, CountedBy, Settled, Settles, WrongLine, RoadLeft, LabelLeft, CallLeft, RowsLeft, LimitLeft, CommandLeft, TextLeft, BytesLeft, LineLeft, Unmarked, comment_bytes};
 
 use answers::answer::Answer;
 use answers::failure::Failure;
@@ -14,6 +13,8 @@ use commands::command::{Command, SheetCommand};
 use commands::name::Name;
 use commands::parse::parse_line;
 use desk::desk::Desk;
+use desk::order::Order;
+use road::design::RoadDesign;
 use std::alloc::{AllocError, Global};
 use std::fmt::Display;
 use std::io;
@@ -23,8 +24,10 @@ use text::lines::LONGEST;
 #[derive(Drop)]
 pub struct Session {
     desk: Desk,
+    // the calls of the open sheet that were read and not yet made
+    stretch: Vec<Order>,
     lines: u64,
-    // how many lines were no commands
+    // how many lines were no commands, or asked for what the sheet does not allow
     pub wrong: u64,
 }
 
@@ -56,53 +59,107 @@ fn write_words<W: Write>(out: &mut W, line: &str) -> io::Result<()> {
 
 impl Session {
     pub fn new(heap: Global) -> Result<Session, AllocError>
-        ensures { IfOk result (λ s. (s.desk.sheet ≡ None) × (s.lines ≡ 0) × (s.wrong ≡ 0)) }
+        ensures { IfOk result (λ s. (s.desk.sheet ≡ None) × (vec_items s.stretch ≡ []) × (s.lines ≡ 0) × (s.wrong ≡ 0)) }
     {
         Ok(Session {
             desk: Desk::new(heap)?,
+            stretch: Vec::new(heap),
             lines: 0,
             wrong: 0,
         })
     }
 
-    // Says what is wrong with the line, and counts it.
+    // Carries out the calls that were read and not yet made; those that are barred count as wrong lines.
     // Here and below `lines` is said to stay: methods that could not change it would be handed the line's number instead.
+    pub fn flush<W: Write>(&mut self, rt: &HostRuntime, out: &mut W) -> io::Result<()>
+        ensures settled { OnOk result (Settled W.contents self.old out.old self.new out.new) }
+        ensures lines { self.new.lines ≡ self.old.lines }
+    {
+        let barred = self
+            .desk
+            .carry_out(rt.alloc(), out, self.stretch.as_slice())?;
+        self.wrong = self.wrong.saturating_add(barred);
+        self.stretch.clear();
+        Ok(())
+    }
+
+    // Says what is wrong with the line, and counts it.
     fn error<W: Write, D: Display + Drop>(&mut self, out: &mut W, what: D) -> io::Result<()>
-        ensures wrong { Counted self.old.wrong self.new.wrong }
-        ensures same { (self.new.lines ≡ self.old.lines) × (self.new.desk ≡ self.old.desk) }
+        ensures wrong { WrongLine self.old self.new }
+        ensures lines { self.new.lines ≡ self.old.lines }
     {
         self.wrong = self.wrong.saturating_add(1);
         let line = self.lines;
         writeln!(out, "error {line}: {what}")
     }
 
-    // Writes what a command answers; one without an open road makes the line wrong.
+    // The same, after the stretch.
+    fn wrong_line<W: Write, D: Display + Drop>(
+        &mut self,
+        rt: &HostRuntime,
+        out: &mut W,
+        what: D,
+    ) -> io::Result<()>
+        ensures left { OnOk result (Settles W.contents WrongLine self.old out.old self.new) }
+        ensures lines { self.new.lines ≡ self.old.lines }
+    {
+        self.flush(rt, out)?;
+        self.error(out, what)
+    }
+
+    // Writes what a command answers; one that the sheet does not allow makes the line wrong.
     fn tell<W: Write>(&mut self, out: &mut W, answer: Result<Answer, Failure>) -> io::Result<()>
         ensures wrong { CountedBy answer self.old.wrong self.new.wrong }
-        ensures same { (self.new.lines ≡ self.old.lines) × (self.new.desk ≡ self.old.desk) }
+        ensures same { (self.new.desk ≡ self.old.desk) × (self.new.stretch ≡ self.old.stretch) }
+        ensures lines { self.new.lines ≡ self.old.lines }
     {
         match answer {
             Ok(answer) => writeln!(out, "{answer}"),
-            Err(Failure::NoRoad(name)) => self.error(out, Failure::NoRoad(name)),
-            Err(refused) => writeln!(out, "{refused}"),
+            Err(Failure::Refused(refusal)) => writeln!(out, "{}", Failure::Refused(refusal)),
+            Err(failure) => self.error(out, failure),
         }
     }
 
-    // Carries out a call on the open sheet; the findings of a check come before their number.
-    fn call<W: Write>(&mut self, out: &mut W, command: SheetCommand) -> io::Result<()>
-        ensures left { CommandLeft (Command.Sheet command) self.old.desk self.old.wrong self.new.desk self.new.wrong }
+    // Opens a road.
+    fn open<W: Write>(&mut self, out: &mut W, design: RoadDesign) -> io::Result<()>
+        ensures left { RoadLeft design self.old self.new }
         ensures lines { self.new.lines ≡ self.old.lines }
     {
-        let answer = self.desk.call(command);
-        if let Ok(Answer::Found { count }) = answer {
-            self.desk.write_findings(out, count)?;
-        }
+        let answer = self.desk.open(design);
         self.tell(out, answer)
+    }
+
+    // The label of a curve on the open road.
+    fn label<W: Write>(&mut self, out: &mut W, radius: u32, turn: u32) -> io::Result<()>
+        ensures left { LabelLeft radius turn self.old self.new }
+        ensures lines { self.new.lines ≡ self.old.lines }
+    {
+        let answer = self.desk.label(radius, turn);
+        self.tell(out, answer)
+    }
+
+    // Puts a call of the open sheet at the end of the stretch.
+    fn call<W: Write>(
+        &mut self,
+        rt: &HostRuntime,
+        out: &mut W,
+        command: SheetCommand,
+    ) -> io::Result<()>
+        ensures left { OnOk result (CallLeft W.contents command self.old.desk.sheet self.old out.old self.new) }
+        ensures lines { self.new.lines ≡ self.old.lines }
+    {
+        if let Err(no_road) = self.desk.opened(command.name()) {
+            return self.wrong_line(rt, out, no_road);
+        }
+        let line = self.lines;
+        self.stretch
+            .push(Order { line, command })
+            .map_err(|failed| io::Error::from(AllocError::from(failed)))
     }
 
     // Lists the rows of the open sheet.
     fn rows<W: Write>(&mut self, out: &mut W) -> io::Result<()>
-        ensures left { CommandLeft Command.Rows self.old.desk self.old.wrong self.new.desk self.new.wrong }
+        ensures left { RowsLeft self.old self.new }
         ensures lines { self.new.lines ≡ self.old.lines }
     {
         match self.desk.opened(Name::Rows) {
@@ -113,7 +170,7 @@ impl Session {
 
     // Puts the limits that a line names in force for the open sheet.
     fn limit<W: Write>(&mut self, rt: &HostRuntime, out: &mut W, line: &str) -> io::Result<()>
-        ensures left { CommandLeft Command.Limit self.old.desk self.old.wrong self.new.desk self.new.wrong }
+        ensures left { LimitLeft self.old self.new }
         ensures lines { self.new.lines ≡ self.old.lines }
     {
         if let Err(no_road) = self.desk.opened(Name::Limit) {
@@ -128,7 +185,7 @@ impl Session {
         }
     }
 
-    // Carries out the command that the line says.
+    // Does what the line says.
     fn command<W: Write>(
         &mut self,
         rt: &HostRuntime,
@@ -136,39 +193,45 @@ impl Session {
         command: Command,
         line: &str,
     ) -> io::Result<()>
-        ensures left { CommandLeft command self.old.desk self.old.wrong self.new.desk self.new.wrong }
+        ensures left { OnOk result (CommandLeft W.contents command self.old out.old self.new) }
         ensures lines { self.new.lines ≡ self.old.lines }
     {
         match command {
             Command::Road(design) => {
-                let answer = self.desk.open(design);
-                self.tell(out, answer)
+                self.flush(rt, out)?;
+                self.open(out, design)
             }
             Command::Label { radius, turn } => {
-                let answer = self.desk.label(radius, turn);
-                self.tell(out, answer)
+                self.flush(rt, out)?;
+                self.label(out, radius, turn)
             }
-            Command::Sheet(call) => self.call(out, call),
-            Command::Rows => self.rows(out),
-            Command::Limit => self.limit(rt, out, line),
+            Command::Sheet(call) => self.call(rt, out, call),
+            Command::Rows => {
+                self.flush(rt, out)?;
+                self.rows(out)
+            }
+            Command::Limit => {
+                self.flush(rt, out)?;
+                self.limit(rt, out, line)
+            }
         }
     }
 
-    // Answers a line of text.
+    // Reads a line of text.
     fn text<W: Write>(&mut self, rt: &HostRuntime, out: &mut W, line: &str) -> io::Result<()>
-        ensures left { TextLeft line.now self.old.desk self.old.wrong self.new.desk self.new.wrong }
+        ensures left { OnOk result (TextLeft W.contents line.now self.old out.old self.new) }
         ensures lines { self.new.lines ≡ self.old.lines }
     {
         match parse_line(line) {
             Ok(None) => Ok(()),
             Ok(Some(command)) => self.command(rt, out, command, line),
-            Err(mistake) => self.error(out, mistake),
+            Err(mistake) => self.wrong_line(rt, out, mistake),
         }
     }
 
-    // Answers a line of bytes.
+    // Reads a line of bytes.
     fn bytes<W: Write>(&mut self, rt: &HostRuntime, out: &mut W, bytes: &[u8]) -> io::Result<()>
-        ensures left { BytesLeft bytes.now self.old.desk self.old.wrong self.new.desk self.new.wrong }
+        ensures left { OnOk result (BytesLeft W.contents bytes.now self.old out.old self.new) }
         ensures lines { self.new.lines ≡ self.old.lines }
     {
         match std::str::from_utf8(bytes) {
@@ -176,28 +239,29 @@ impl Session {
             Err(_) if is_comment(bytes) => Ok(()),
             Err(e) => {
                 let valid = e.valid_up_to();
-                self.error(
-                    out,
-                    format_args!("after {valid} bytes the line is not UTF-8 text"),
-                )
+                let what = format_args!("after {valid} bytes the line is not UTF-8 text");
+                self.wrong_line(rt, out, what)
             }
         }
     }
 
-    // Answers a line, as bytes without the newline; `None` is a line that is too long.
+    // Reads a line, as bytes without the newline, and answers it, unless it is put at the end of the stretch; `None` is a line that is too long.
     pub fn line<W: Write>(
         &mut self,
         rt: &HostRuntime,
         out: &mut W,
         line: Option<&[u8]>,
     ) -> io::Result<()>
-        ensures left { LineLeft self.old.lines line.entry self.old.desk self.old.wrong self.new.desk self.new.wrong }
+        ensures left { OnOk result (LineLeft W.contents line.entry self.old out.old self.new) }
         ensures lines { Counted self.old.lines self.new.lines }
     {
         let first = self.lines == 0;
         self.lines = self.lines.saturating_add(1);
         match line {
-            None => self.error(out, format_args!("the line is longer than {LONGEST} bytes")),
+            None => {
+                let what = format_args!("the line is longer than {LONGEST} bytes");
+                self.wrong_line(rt, out, what)
+            }
             Some(bytes) if first => self.bytes(rt, out, without_mark(bytes)),
             Some(bytes) => self.bytes(rt, out, bytes),
         }

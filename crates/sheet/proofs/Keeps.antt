@@ -1,9 +1,9 @@
 -- How a call's way out keeps to the relation: one lemma for a refusal, one for a call carried out, one for a call that only looks.
-use Rattle.std.proofs.Common.{◌≡◌, ℕ, ◌+◌, ◌-◌, ◌<◌, ◌≤◌, min, List, [], length, get_or, take, set, sym, refl, ap, ◌∙◌, inl, inr, arith, length-set}
+use Rattle.std.proofs.Common.{◌≡◌, ℕ, ◌+◌, ◌-◌, ◌<◌, ◌≤◌, min, List, [], ◌∷◌, ◌++◌, length, Err, get_or, take, set, sym, refl, ap, ◌∙◌, inl, inr, arith, length-set}
 use Rattle.std.proofs.lemmas.List.{length-take-le, length-map, get_or-map, get_or-take, get_or_default}
 use Rattle.road.specs.declared.road.Road.{Road}
 use Rattle.road.specs.declared.refusal.Refusal.{Refusal}
-use Rattle.road.specs.Refusals.{Ground, FirstApplying, Clear, Refused, number_of}
+use Rattle.road.specs.Refusals.{Ground, ground, FirstApplying, Clear, Refused, number_of}
 use Rattle.roll.specs.Contents.{with_inserted, with_removed}
 use Rattle.rows.specs.declared.record.RowRecord.{RowRecord}
 use Rattle.rows.specs.declared.record.RowRecord.TheVariants as stored
@@ -14,9 +14,9 @@ use Rattle.rows.specs.declared.row.Row.TheVariants as row
 use Rattle.rows.specs.Reading.{row_of, rows_of, record_of, blank_record}
 use Rattle.plain.specs.declared.NewRow.{NewRow}
 use Rattle.plain.specs.declared.NewRow.TheVariants as new
-use Rattle.plain.specs.Sheet.{draft, RowAt, with_rows, Given, WithLengths, add, take_out, set_lengths, Call, named, Answer, done, refused, Allowed, grounds, number_grounds, Effect, refusing, carrying}
+use Rattle.plain.specs.Sheet.{draft, RowAt, StraightAt, with_rows, Given, WithLengths, add, take_out, set_lengths, Call, named, Answer, done, refused, Allowed, grounds, number_grounds, Effect, refusing, carrying}
 use Rattle.plain.specs.Given.{given_record}
-use Rattle.sheet.specs.States.{State, shown, refusal, MemoryAfter, Performs}
+use Rattle.sheet.specs.States.{State, shown, refusal, MemoryAfter, Performs, RecordAt}
 use Rattle.sheet.proofs.RowEdits.{rows_inserted, rows_removed, rows_set, length_inserted_within, length_removed_within}
 
 -- a draft's state
@@ -26,17 +26,24 @@ draft_of road count memory = record { mark = draft; road = road; count = count; 
 -- a refusal that applies, with nothing changed
 pub halted : (s : State) (c : Call) (number : ℕ) → Allowed s.mark c → FirstApplying (grounds (length s.memory) s.count (shown s) c) number → Performs s c (refused number (named c)) s
 halted s c number allowed why =
-    record { step = refusing allowed number why refl refl; unchanged = λ _. refl; memory = λ never. absurd (never tt); whole = λ h. h; long = refl }
+    record { step = refusing allowed number why refl refl; unchanged = λ _. refl; memory = λ never. absurd (never tt); whole = λ h. h; short = λ _. refl; long = refl }
 
 -- a call that no refusal stops, and that answers `done`
-pub carried : (s : State) (c : Call) (s' : State) → Allowed s.mark c → Clear (grounds (length s.memory) s.count (shown s) c) → Effect (shown s) c done (shown s') → MemoryAfter c s.count s.memory s'.memory → s'.count ≤ length s.memory → length s'.memory ≡ length s.memory → Performs s c done s'
-carried s c s' allowed clear effect memory whole long =
-    record { step = carrying allowed clear effect; unchanged = λ never. absurd never; memory = λ _. memory; whole = λ _. omega arith; long = long }
+pub carried : (s : State) (c : Call) (s' : State) → Allowed s.mark c → Clear (grounds (length s.memory) s.count (shown s) c) → Effect (shown s) c done (shown s') → MemoryAfter c s.count s.memory s'.memory → s.count ≤ length s.memory → s'.count ≤ length s.memory → length s'.memory ≡ length s.memory → Performs s c done s'
+carried s c s' allowed clear effect memory fits whole long =
+    record {
+      step = carrying allowed clear effect;
+      unchanged = λ never. absurd never;
+      memory = λ _. memory;
+      whole = λ _. omega arith;
+      short = λ few. absurd (omega arith);
+      long = long;
+    }
 
 -- a call that looks and changes nothing
 pub looked : (s : State) (c : Call) (a : Answer) → Allowed s.mark c → Clear (grounds (length s.memory) s.count (shown s) c) → Effect (shown s) c a (shown s) → MemoryAfter c s.count s.memory s.memory → Performs s c a s
 looked s c a allowed clear effect memory =
-    record { step = carrying allowed clear effect; unchanged = λ _. refl; memory = λ _. memory; whole = λ h. h; long = refl }
+    record { step = carrying allowed clear effect; unchanged = λ _. refl; memory = λ _. memory; whole = λ h. h; short = λ _. refl; long = refl }
 
 -- a ground of the numbers of a row is the first of all grounds of adding it
 pub numbers_first : (given : NewRow) (others : List Ground) (number : ℕ) → FirstApplying (number_grounds given []) number → FirstApplying (number_grounds given others) number
@@ -61,14 +68,20 @@ numbers_refused s place given e allowed why =
     rw why.names (halted s (add place given) (number_of e) allowed (numbers_first given _ (number_of e) why.smallest))
 
 -- the record that the added row is kept by
-given_record_is : (given : NewRow) (r : Row) → Given given r → record_of r ≡ given_record given
+pub given_record_is : (given : NewRow) (r : Row) → Given given r → record_of r ≡ given_record given
 given_record_is (new.Straight l) (row.Straight s) is = cc
 given_record_is (new.Straight l) (row.Curve c) is = absurd is
 given_record_is (new.Curve sense radius turn) (row.Straight s) is = absurd is
 given_record_is (new.Curve sense radius turn) (row.Curve c) is = cc
 
+-- the first of some grounds is the first of more
+pub more_grounds : (grounds later : List Ground) (number : ℕ) → FirstApplying grounds number → FirstApplying (grounds ++ later) number
+more_grounds [] later number never = absurd never
+more_grounds (g ∷ gs) later number (inl first) = inl first
+more_grounds (g ∷ gs) later number (inr (clear, rest)) = inr (clear, more_grounds gs later number rest)
+
 -- row n of the first rows is what record n stands for
-row_at : (memory : List RowRecord) (count n : ℕ) (r : Row) (d : RowRecord) → count ≤ length memory → n < count → r ≡ row_of (get_or memory n d) → RowAt (rows_of memory count) n r
+pub row_at : (memory : List RowRecord) (count n : ℕ) (r : Row) (d : RowRecord) → count ≤ length memory → n < count → r ≡ row_of (get_or memory n d) → RowAt (rows_of memory count) n r
 row_at memory count n r d fits within reads =
     let long = length-take-le count memory fits in
     let here : n < length (take count memory) = omega arith in
@@ -77,15 +90,8 @@ row_at memory count n r d fits within reads =
       is = reads ∙ sym (get_or-map row_of (take count memory) n d r here ∙ ap row_of (get_or-take count memory n d within));
     }
 
--- a record of the first ones stands at its place in the memory
-pub found_at : (memory front : List RowRecord) (count n : ℕ) (x : RowRecord) → front ≡ take count memory → count ≤ length memory → n < length front → x ≡ get_or front n x → (n < count) × (x ≡ get_or memory n x)
-found_at memory front count n x is fits within at =
-    let long : length front ≡ count = ap length is ∙ length-take-le count memory fits in
-    let here : n < count = omega arith in
-    (here, at ∙ ap (λ xs. get_or xs n x) is ∙ get_or-take count memory n x here)
-
 -- a row is not both a straight and a curve
-never_both : (rows : List Row) (n : ℕ) (c : Curve) (s : Straight) → RowAt rows n (row.Curve c) → RowAt rows n (row.Straight s) → ⊥
+pub never_both : (rows : List Row) (n : ℕ) (c : Curve) (s : Straight) → RowAt rows n (row.Curve c) → RowAt rows n (row.Straight s) → ⊥
 never_both rows n c s curve straight =
     let same = get_or_default rows n (row.Curve c) (row.Straight s) curve.within in
     let never : ◌≡◌ {A = ℕ} 0 1 = cc (curve.is, straight.is) in
@@ -102,7 +108,7 @@ module _ (road : Road) (count : ℕ) (memory memory' : List RowRecord) where
       (all_clear given _ clear (λ short. omega arith, (λ beyond. omega arith, (λ full. elim full [ inl many ↦ omega arith | inr little ↦ omega arith ], tt))))
       (refl, (r, is, ap (λ rows. with_rows (shown (draft_of road count memory)) rows) (ap (λ m. rows_of m (count + 1)) exact ∙ rows_inserted memory count place r within (omega arith))))
       (exact ∙ ap (with_inserted memory count place) (given_record_is given r is))
-      (omega arith) long
+      fits (omega arith) long
 
   -- a refusal after a roll was asked, which left the memory
   pub turned_down : (c : Call) (number : ℕ) → Allowed draft c → FirstApplying (grounds (length memory) count (shown (draft_of road count memory)) c) number → memory' ≡ memory → Performs (draft_of road count memory) c (refused number (named c)) (draft_of road count memory')
@@ -116,7 +122,7 @@ module _ (road : Road) (count : ℕ) (memory memory' : List RowRecord) where
       let long : length memory' ≡ length memory = ap length exact ∙ length_removed_within memory count n blank_record (omega arith, fits) in
       carried (draft_of road count memory) (take_out n) (draft_of road fewer memory') tt (λ short. omega arith, (λ beyond. omega arith, tt))
       (refl, ap (λ rows. with_rows (shown (draft_of road count memory)) rows) (ap (λ m. rows_of m fewer) exact ∙ rows_removed memory count n fewer blank_record (omega arith) (omega arith) fits))
-      exact (omega arith) long
+      exact fits (omega arith) long
 
   -- both lengths of a curve were set
   pub relengthened : (n entry exit : ℕ) (c : Curve) (d : RowRecord) → entry ≤ 2_000_000 → exit ≤ 2_000_000 → count ≤ length memory → n < count → row.Curve c ≡ row_of (get_or memory n d) → memory' ≡ set memory n (stored.Curve c.sense c.radius c.turn entry exit) → Performs (draft_of road count memory) (set_lengths n entry exit) done (draft_of road count memory')
@@ -131,7 +137,14 @@ module _ (road : Road) (count : ℕ) (memory memory' : List RowRecord) where
       )
       (refl, (c, d, here, is, ap (λ rows. with_rows (shown (draft_of road count memory)) rows) (ap (λ m. rows_of m count) after ∙ rows_set memory count n (row.Curve d) within)))
       (c, reads ∙ ap row_of (get_or_default memory n default blank_record (omega arith)), after)
-      (omega arith) long
+      fits fits long
+
+  -- there is no record of that row
+  pub no_record : (n entry exit : ℕ) (e : Refusal) → entry ≤ 2_000_000 → exit ≤ 2_000_000 → RecordAt memory count n (Err e) → Performs (draft_of road count memory) (set_lengths n entry exit) (refusal e) (draft_of road count memory)
+  no_record n entry exit e low low' why =
+      let later = more_grounds (ground 7 (length memory < count) ∷ ground 8 (count ≤ n) ∷ []) (ground 9 (StraightAt (rows_of memory count) n) ∷ []) (number_of e) why.smallest in
+      let first = inr (λ above. elim above [ inl a ↦ omega arith | inr b ↦ omega arith ], later) in
+      rw why.names (halted (draft_of road count memory) (set_lengths n entry exit) (number_of e) tt first)
 
   -- a straight has no lengths to set
   pub no_curve : (n entry exit : ℕ) (s : Straight) (d : RowRecord) → entry ≤ 2_000_000 → exit ≤ 2_000_000 → count ≤ length memory → n < count → row.Straight s ≡ row_of (get_or memory n d) → Performs (draft_of road count memory) (set_lengths n entry exit) (refused 9 n) (draft_of road count memory)

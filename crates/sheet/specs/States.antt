@@ -1,9 +1,9 @@
 -- A sheet with the memory that is lent to it, the plain sheet that it shows, and what every call keeps to.
-use Rattle.std.specs.Prelude.{◌≡◌, ℕ, ◌≤◌, List, [], length, take, drop, Ok, Err, Result, slice_index_or, slice_set}
+use Rattle.std.specs.Prelude.{◌≡◌, ℕ, ◌<◌, ◌≤◌, List, [], ◌∷◌, length, take, drop, Ok, Err, Result, slice_index_or, slice_set}
 use Rattle.roll.specs.Contents.{with_inserted, with_removed}
 use Rattle.road.specs.declared.refusal.Refusal.{Refusal}
 use Rattle.road.specs.declared.road.Road.{Road}
-use Rattle.road.specs.Refusals.{number_of, row_of as row_named, Clear, Refused}
+use Rattle.road.specs.Refusals.{number_of, row_of as row_named, ground, Clear, Refused}
 use Rattle.rows.specs.declared.record.RowRecord.{RowRecord}
 use Rattle.rows.specs.declared.record.RowRecord.TheVariants as stored
 use Rattle.rows.specs.declared.row.Curve.{Curve}
@@ -13,8 +13,10 @@ use Rattle.rows.specs.Reading.{row_of, rows_of, blank_record}
 use Rattle.findings.specs.declared.finding.Finding.{Finding}
 use Rattle.plain.specs.declared.NewRow.{NewRow}
 use Rattle.plain.specs.Given.{given_record}
-use Rattle.plain.specs.Sheet.{Mark, draft, Plain, Call, add, take_out, set_lengths, check, fit, parameter, reopen, Answer, done, found, refused, Stopped, number_grounds, Given, StepAt}
+use Rattle.fitting.specs.Fits.{OnlyCurves}
+use Rattle.plain.specs.Sheet.{Mark, draft, fitted, Plain, Call, add, take_out, set_lengths, check, fit, parameter, reopen, Answer, done, found, value, refused, Stopped, number_grounds, Given, StepAt}
 use Rattle.sheet.specs.declared.draft.Draft.{Draft}
+use Rattle.sheet.specs.declared.fitted.Fitted.{Fitted}
 
 -- A sheet's numbers, with the row memory that is lent to it.
 pub record State : Type 0 where
@@ -25,6 +27,9 @@ pub record State : Type 0 where
 
 abbrev pub drafted : Draft → List RowRecord → State
 drafted d memory = record { mark = draft; road = d.road; count = d.count; memory = memory }
+
+abbrev pub fitted_in : Fitted → List RowRecord → State
+fitted_in f memory = record { mark = fitted; road = f.road; count = f.count; memory = memory }
 
 -- The plain sheet that a state shows: its rows are what the first `count` records stand for.
 abbrev pub shown : State → Plain
@@ -37,16 +42,18 @@ MemoryAfter (take_out n) count before after = after ≡ with_removed before coun
 MemoryAfter (set_lengths n entry exit) count before after =
     (c : Curve) × (row.Curve c ≡ row_of (slice_index_or before n blank_record)) × (after ≡ slice_set before n (stored.Curve c.sense c.radius c.turn entry exit))
 MemoryAfter (check limit space) count before after = after ≡ before
-MemoryAfter (fit limit) count before after = drop count after ≡ drop count before
+MemoryAfter (fit limit) count before after = OnlyCurves (take count before) (take count after) × (drop count after ≡ drop count before)
 MemoryAfter (parameter n at) count before after = after ≡ before
 MemoryAfter reopen count before after = after ≡ before
 
--- What every call keeps to: the plain sheet's step; a call that is refused or barred changes nothing at all; and what the memory then holds.
+-- What every call keeps to: the plain sheet's step; a call that is refused or barred changes nothing at all; what the memory then holds;
+-- and how many rows there then are, in a memory that holds all of them and in one that is too short for them.
 pub record Performs (s : State) (c : Call) (a : Answer) (s' : State) : Type 0 where
   pub step : StepAt (length s.memory) s.count (shown s) c a (shown s')
   pub unchanged : Stopped a → s' ≡ s
   pub memory : (Stopped a → ⊥) → MemoryAfter c s.count s.memory s'.memory
   pub whole : s.count ≤ length s.memory → s'.count ≤ length s'.memory
+  pub short : length s.memory < s.count → s'.count ≡ s.count
   pub long : length s'.memory ≡ length s.memory
 
 -- What each call's result answers.
@@ -56,6 +63,19 @@ refusal r = refused (number_of r) (row_named r)
 abbrev pub edited : Result (Unit {0}) Refusal → Answer
 edited (Ok _) = done
 edited (Err r) = refusal r
+
+abbrev pub measured : Result ℕ Refusal → Answer
+measured (Ok A) = value A
+measured (Err r) = refusal r
+
+abbrev pub fitting_answer : Result Fitted (Draft × Refusal) → Answer
+fitting_answer (Ok _) = done
+fitting_answer (Err handed) = refusal handed.1
+
+-- The sheet after a fit: fitted, or the draft that was handed back.
+abbrev pub after_fit : Result Fitted (Draft × Refusal) → List RowRecord → State
+after_fit (Ok f) memory = fitted_in f memory
+after_fit (Err handed) memory = drafted handed.0 memory
 
 -- A check's findings are those that it wrote.
 abbrev pub listed : Result ℕ Refusal → List Finding → Answer
@@ -71,3 +91,8 @@ Untouched (Err r) before after = after ≡ before
 abbrev pub Numbered : ℕ → NewRow → Result Row Refusal → Type 0
 Numbered place given (Ok r) = Clear (number_grounds given []) × Given given r
 Numbered place given (Err refusal) = Refused (number_grounds given []) place refusal
+
+-- What asking for the record of row n gives: record n, or the refusal of a memory that is too short or of a row that is not there.
+abbrev pub RecordAt : List RowRecord → (count n : ℕ) → Result RowRecord Refusal → Type 0
+RecordAt memory count n (Ok r) = (count ≤ length memory) × (n < count) × (r ≡ slice_index_or memory n r)
+RecordAt memory count n (Err refusal) = Refused (ground 7 (length memory < count) ∷ ground 8 (count ≤ n) ∷ []) n refusal

@@ -5,6 +5,7 @@ ghost use Rattle.plain.specs.Sheet.{opened, add as adding, take_out as striking,
 ghost use Rattle.sheet.specs.States.{drafted, shown, edited, Performs, Numbered};
 
 use crate::draft::Draft;
+use crate::reading::{record_at, records};
 use limits::limit::LONGEST as LONGEST_CLOTHOID;
 use plain::NewRow;
 use road::refusal::Refusal;
@@ -34,7 +35,7 @@ impl Draft {
         ensures { Performs (drafted self.old rows.old) (adding place new) (edited result) (drafted self.new rows.new) }
     {
         let row = given_row(place, new)?;
-        self.records(rows, place)?;
+        records(rows, self.count, place)?;
         if place > self.count {
             return Err(Refusal::NoSuchPlace { row: place });
         }
@@ -52,7 +53,7 @@ impl Draft {
     pub fn take_out(&mut self, rows: &mut [RowRecord], row: usize) -> Result<(), Refusal>
         ensures { Performs (drafted self.old rows.old) (striking row) (edited result) (drafted self.new rows.new) }
     {
-        self.records(rows, row)?;
+        records(rows, self.count, row)?;
         let mut roll = Roll::over(rows, self.count);
         roll.remove(row, RowRecord::BLANK)
             .map_err(|_| Refusal::NoSuchPlace { row })?;
@@ -73,11 +74,7 @@ impl Draft {
         if entry > LONGEST_CLOTHOID || exit > LONGEST_CLOTHOID {
             return Err(Refusal::HandLength { row });
         }
-        let record = self
-            .records(rows, row)?
-            .get(row)
-            .ok_or(Refusal::NoSuchPlace { row })?;
-        let Row::Curve(curve) = record.read() else {
+        let Row::Curve(curve) = record_at(rows, self.count, row)?.read() else {
             return Err(Refusal::NotACurve { row });
         };
         // Not `Row::Curve(Curve { entry, exit, ..curve })`: a struct with a ghost field takes no `..`.

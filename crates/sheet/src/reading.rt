@@ -1,10 +1,29 @@
-// What a draft says of itself.
+// What a draft says of itself, and the records of a sheet's rows.
 ghost use Rattle.std.specs.Prelude.{◌≡◌, ◌<◌, ◌≤◌, MatchResult, length, take};
+ghost use Rattle.sheet.specs.States.{RecordAt};
 
 use crate::draft::Draft;
 use road::refusal::Refusal;
 use road::road::Road;
 use rows::record::RowRecord;
+
+// The records of the first `count` rows. A memory shorter than the count is refused, naming that row.
+pub(crate) fn records(rows: &[RowRecord], count: usize, row: usize) -> Result<&[RowRecord], Refusal>
+    ensures { MatchResult result (λ records. (count ≤ length rows.now) × (records.now ≡ take count rows.now)) (λ refusal. (length rows.now < count) × (refusal ≡ Refusal.ShortMemory row)) }
+{
+    rows.get(..count).ok_or(Refusal::ShortMemory { row })
+}
+
+// The record of a row among the first `count`.
+pub(crate) fn record_at(rows: &[RowRecord], count: usize, row: usize) -> Result<RowRecord, Refusal>
+    ensures { RecordAt rows.now count row result }
+{
+    let records = records(rows, count, row)?;
+    if row >= count {
+        return Err(Refusal::NoSuchPlace { row });
+    }
+    Ok(records[row])
+}
 
 impl Draft {
     pub fn road(&self) -> Road
@@ -18,16 +37,5 @@ impl Draft {
         ensures { result ≡ self.now.count }
     {
         self.count
-    }
-
-    // The records of its rows. A memory shorter than the count is refused, naming that row.
-    pub(crate) fn records<'a>(
-        &self,
-        rows: &'a [RowRecord],
-        row: usize,
-    ) -> Result<&'a [RowRecord], Refusal>
-        ensures { MatchResult result (λ records. (self.now.count ≤ length rows.now) × (records.now ≡ take self.now.count rows.now)) (λ refusal. (length rows.now < self.now.count) × (refusal ≡ Refusal.ShortMemory row)) }
-    {
-        rows.get(..self.count).ok_or(Refusal::ShortMemory { row })
     }
 }

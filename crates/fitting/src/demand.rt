@@ -1,0 +1,156 @@
+// What the rows of a sheet ask of their clothoids.
+ghost use Rattle.std.specs.Prelude.{◌≡◌, ◌≤◌};
+ghost use Rattle.findings.specs.Rules.{Admission};
+ghost use Rattle.findings.specs.Walk.{symmetric};
+ghost use Rattle.fitting.specs.Demands.{room, bounds, demand, lengths};
+ghost use Rattle.fitting.specs.Passes.{first, asks, raised, only_of, body};
+ghost use Rattle.rows.specs.Reading.{row_of};
+
+use crate::reach::{beside, low};
+use limits::limit::Limit;
+use road::road::Road;
+use rows::record::RowRecord;
+use rows::row::{Curve, Row};
+use superelevation::group::Group;
+
+// The bounds of a calling curve's two clothoids.
+#[derive(Clone, Copy)]
+pub(crate) struct Bounds {
+    // the least lengths that are admitted at the entry and at the exit, if there are any, mm
+    pub entry: Option<u32>,
+    pub exit: Option<u32>,
+    // whether entry and exit have to be equal
+    pub even: bool,
+    // the greatest sum of the two that leaves an arc, mm
+    pub room: u32,
+}
+
+#[derive(Clone, Copy)]
+pub(crate) enum Demand {
+    // a straight, or a curve that calls for no clothoids: both lengths are 0
+    Free,
+    Called(Bounds),
+}
+
+// The lengths of a row's two clothoids, mm.
+#[derive(Clone, Copy)]
+pub(crate) struct Lengths {
+    pub entry: u32,
+    pub exit: u32,
+}
+
+// Whether entry and exit have to be equal on a road of the group.
+fn is_even(group: Group) -> bool
+    ensures { result ≡ symmetric group }
+{
+    group != Group::Three
+}
+
+// The greatest sum of entry and exit that leaves an arc.
+fn room_of(curve: Curve) -> u32
+    ensures { result ≡ room curve }
+{
+    ((curve.turn as u64 * curve.radius as u64 - 1) / 318_300) as u32
+}
+
+impl Bounds {
+    // The limit is asked here alone.
+    fn of<L: Limit>(road: &Road, limit: &L, curve: Curve) -> Bounds
+        ensures { result ≡ bounds road.now (L.Limit.admitted limit.now) curve }
+    {
+        let least = curve.least_length(road, limit);
+        Bounds {
+            entry: least,
+            exit: least,
+            even: is_even(road.group),
+            room: room_of(curve),
+        }
+    }
+}
+
+impl Demand {
+    // What the row asks of its clothoids.
+    pub(crate) fn of<L: Limit>(road: &Road, limit: &L, row: Row) -> Demand
+        ensures { result ≡ demand road.now (L.Limit.admitted limit.now) row }
+    {
+        let Row::Curve(curve) = row else {
+            return Demand::Free;
+        };
+        if curve.calls_for_clothoids(road) {
+            Demand::Called(Bounds::of(road, limit, curve))
+        } else {
+            Demand::Free
+        }
+    }
+
+    // The least lengths that the rows up to this one ask, where its entry is at least that long.
+    pub(crate) fn first(self, least_entry: u32) -> Lengths
+        ensures { result ≡ first least_entry self }
+    {
+        let Demand::Called(bounds) = self else {
+            return Lengths::NONE;
+        };
+        let entry = low(bounds.entry).max(least_entry);
+        let exit = low(bounds.exit);
+        Lengths {
+            entry,
+            exit: if bounds.even { entry.max(exit) } else { exit },
+        }
+    }
+
+    // The least entry that a row of those lengths asks of the row after it.
+    pub(crate) fn asks(self, lengths: Lengths) -> u32
+        ensures { result ≡ asks self lengths }
+    {
+        match self {
+            Demand::Free => 0,
+            Demand::Called(_) => beside(lengths.exit),
+        }
+    }
+}
+
+impl Lengths {
+    pub(crate) const NONE: Lengths = Lengths { entry: 0, exit: 0 };
+
+    // The lengths of the row where its exit is at least that long.
+    pub(crate) fn raised(road: &Road, row: Row, least_exit: u32) -> Lengths
+        ensures { (admission : Admission) → result ≡ raised least_exit (demand road.now admission row) (lengths row) }
+    {
+        let Row::Curve(curve) = row else {
+            return Lengths::NONE;
+        };
+        if !curve.calls_for_clothoids(road) {
+            return Lengths {
+                entry: curve.entry,
+                exit: curve.exit,
+            };
+        }
+        let exit = curve.exit.max(least_exit);
+        Lengths {
+            entry: if is_even(road.group) {
+                exit
+            } else {
+                curve.entry
+            },
+            exit,
+        }
+    }
+}
+
+// The record with other lengths, where it is that of a curve.
+pub(crate) fn with_lengths(stored: RowRecord, new: Lengths) -> RowRecord
+    requires { (new.entry ≤ 2_000_000) × (new.exit ≤ 2_000_000) }
+    ensures same { body result ≡ body stored }
+    ensures read { lengths (row_of result) ≡ only_of (row_of stored) new }
+{
+    let Row::Curve(curve) = stored.read() else {
+        return stored;
+    };
+    RowRecord::from(Row::Curve(Curve {
+        sense: curve.sense,
+        radius: curve.radius,
+        turn: curve.turn,
+        entry: new.entry,
+        exit: new.exit,
+    }))
+}

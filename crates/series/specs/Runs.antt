@@ -1,0 +1,98 @@
+-- Series of calls: the runs of the plain sheet, the chains of a sheet with its memory, and what carrying them out promises.
+use Rattle.std.specs.Prelude.{◌≡◌, ℕ, ◌≤◌, List, [], ◌∷◌, ◌++◌, map, length, take, drop, min}
+use Rattle.road.specs.declared.road.Road.{Road}
+use Rattle.rows.specs.declared.record.RowRecord.{RowRecord}
+use Rattle.findings.specs.declared.finding.Finding.{Finding}
+use Rattle.plain.specs.Sheet.{draft, Plain, Meaning, Call, Answer, done, found, value, refused, barred, Step}
+use Rattle.sheet.specs.States.{State, shown, Performs}
+use Rattle.series.specs.declared.answer.Answer.{Answer as RealAnswer}
+use Rattle.series.specs.declared.call.Request.{Request}
+use Rattle.series.specs.declared.mark.Sheet.{Sheet}
+use Rattle.series.specs.Calls.{stands, asked, told}
+
+-- A turn of a series: how many rows its memory can hold, and its call, by the number of rows that there then are.
+pub record Turn : Type 0 where
+  pub room : ℕ
+  pub call : (count : ℕ) → Call
+
+-- What is seen after a turn: the answer, and the plain sheet.
+pub record Seen : Type 0 where
+  pub answer : Answer
+  pub sheet : Plain
+
+-- A run of the plain sheet: its step at each turn, and what is seen after it.
+abbrev pub Run : Plain → List Turn → List Seen → Type 0
+Run s [] [] = Unit {0}
+Run s [] (x ∷ xs) = ⊥
+Run s (q ∷ qs) [] = ⊥
+Run s (q ∷ qs) (x ∷ xs) = Step q.room s (q.call (length s.rows)) x.answer x.sheet × Run x.sheet qs xs
+
+-- What a turn leaves: the answer, and the sheet with all its memory.
+pub record Left : Type 0 where
+  pub answer : Answer
+  pub state : State
+
+abbrev pub look : Left → Seen
+look x = record { answer = x.answer; sheet = shown x.state }
+
+-- A sheet with the first slots of its memory.
+abbrev pub lent : ℕ → State → State
+lent room s = record { mark = s.mark; road = s.road; count = s.count; memory = take room s.memory }
+
+-- A call that is lent the first slots keeps its contract on them, and leaves the others.
+pub record Lent (room : ℕ) (s : State) (c : Call) (a : Answer) (s' : State) : Type 0 where
+  pub within : room ≤ length s.memory
+  pub performs : Performs (lent room s) c a (lent room s')
+  pub rest : drop room s'.memory ≡ drop room s.memory
+
+-- Calls that are linked by their own contracts, whoever makes them.
+abbrev pub Chain : State → List Turn → List Left → Type 0
+Chain s [] [] = Unit {0}
+Chain s [] (x ∷ xs) = ⊥
+Chain s (q ∷ qs) [] = ⊥
+Chain s (q ∷ qs) (x ∷ xs) = Lent q.room s (q.call s.count) x.answer x.state × Chain x.state qs xs
+
+-- The sheet that the last of them leaves.
+abbrev pub last_of : State → List Left → State
+last_of s [] = s
+last_of s (x ∷ xs) = last_of x.state xs
+
+-- A watcher goes from w to w' by seeing these, one after the other.
+abbrev pub Watched : {W : Type 0} → (W → Seen → W → Type 0) → W → List Seen → W → Type 0
+Watched sees w [] w' = w' ≡ w
+Watched {W = W} sees w (x ∷ xs) w' = (v : W) × sees w x v × Watched sees v xs w'
+
+-- What the findings memory holds after an answer, and after several: the findings of a check at its front, and past them what it held.
+abbrev pub over : Answer → List Finding → List Finding
+over done memory = memory
+over (found findings) memory = findings ++ drop (length findings) memory
+over (value A) memory = memory
+over (refused number row) memory = memory
+over barred memory = memory
+
+abbrev pub over_all : List Left → List Finding → List Finding
+over_all [] memory = memory
+over_all (x ∷ xs) memory = over_all xs (over x.answer memory)
+
+-- What a request asks, with so many slots of row memory and of findings memory; more cannot be lent.
+abbrev pub turn : {L : Type 0} → (L → Meaning) → (rows findings : ℕ) → Request L → Turn
+turn meant rows findings q = record { room = min q.room rows; call = λ count. asked meant findings count q.call }
+
+-- What is seen of a sheet at run time.
+abbrev pub seen : Sheet → List RowRecord → List Finding → RealAnswer → Seen
+seen s memory findings a = record { answer = told a findings; sheet = shown (stands s memory) }
+
+-- The turns were carried out: each call kept its own contract; the answers and the sheets that the watcher was shown, one after the other, are a run
+-- of the plain sheet; the sheet is the one that the last turn leaves, its memory holds its rows; and the findings memory has what the checks wrote.
+pub record CarriedOut {W : Type 0} (sees : W → Seen → W → Type 0) (turns : List Turn) (w w' : W) (findings findings' : List Finding) (s s' : State) : Type 0 where
+  pub trail : List Left
+  pub chain : Chain s turns trail
+  pub run : Run (shown s) turns (map look trail)
+  pub watched : Watched sees w (map look trail) w'
+  pub ends : s' ≡ last_of s trail
+  pub fits : s'.count ≤ length s'.memory
+  pub written : findings' ≡ over_all trail findings
+
+-- A sheet just opened, with its memory.
+abbrev pub opened_in : Road → List RowRecord → State
+opened_in road memory = record { mark = draft; road = road; count = 0; memory = memory }

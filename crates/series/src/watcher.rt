@@ -1,0 +1,16 @@
+// Who is shown the sheet after each call of a series.
+ghost use Rattle.series.specs.Runs.{Seen, seen};
+
+use crate::answer::Answer;
+use crate::mark::Sheet;
+use findings::finding::Finding;
+use rows::record::RowRecord;
+
+pub trait Watcher {
+    // How seeing a call's answer, and the sheet after it, changes the watcher.
+    ghost sees: { Self → Seen → Self → Type 0 };
+
+    // The sheet's rows are in the row memory, and the findings of a check in theirs.
+    fn see(&mut self, sheet: &Sheet, rows: &[RowRecord], findings: &[Finding], answer: Answer)
+        ensures { sees self.old (seen sheet.now rows.now findings.now answer) self.new };
+}

@@ -1,0 +1,12 @@
+// A sheet whose curves have the least lengths: its road, and how many rows it has. It is moved and never copied.
+ghost use Rattle.std.specs.Prelude.{◌≤◌};
+
+use road::road::Road;
+
+#[derive(Drop)]
+pub struct Fitted {
+    pub(crate) road: Road,
+    // of the rows, which lie in memory that is lent to each call
+    pub(crate) count: usize,
+    ghost few: { count ≤ 4_000 },
+}
