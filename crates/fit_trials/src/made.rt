@@ -21,7 +21,8 @@ pub(crate) const ROOM: usize = 8;
 
 const FINDINGS: usize = 32;
 
-const UNUSED: Finding = Finding {
+// What the findings memory holds before a check.
+pub(crate) const UNUSED: Finding = Finding {
     row: 99,
     rule: Rule::AdmittedLength,
     side: Side::Whole,

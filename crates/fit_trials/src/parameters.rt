@@ -1,5 +1,6 @@
-// Parameters of a fitted sheet, and opening it again.
-use crate::made::{GARBAGE, ROOM, drafted, fit, left, right, straight, turned};
+// What a fitted sheet allows: asking parameters, checking, and opening it again.
+use crate::made::{GARBAGE, ROOM, UNUSED, drafted, fit, left, right, straight, turned};
+use findings::finding::Rule;
 use norma::compulsory::COMPULSORY;
 use plain::NewRow;
 use road::class::Class;
@@ -93,6 +94,29 @@ fn refusals(rt: HostRuntime) -> Result<(), Fail> {
     rows[0] = GARBAGE;
     refused(&rt, &sheet, &rows, 0, Refusal::NotACurve { row: 0 });
     has(&rt, &sheet, &rows, 2, 181_847, 181_847);
+    Ok(())
+}
+
+// Each radius is too far from the other, in both senses of travel: two findings of rule 8.
+#[test]
+fn checked(rt: HostRuntime) -> Result<(), Fail> {
+    let (sheet, rows) = pair()?;
+    let mut findings = [UNUSED; 2];
+    assert_eq!(rt; sheet.check(&rows, &COMPULSORY, &mut findings), Ok(2));
+    let rules = [findings[0].rule, findings[1].rule];
+    assert_eq!(rt; rules, [Rule::ConsecutiveRadii; 2]);
+    Ok(())
+}
+
+#[test]
+fn checking_refused(rt: HostRuntime) -> Result<(), Fail> {
+    let (sheet, rows) = pair()?;
+    let mut findings = [UNUSED; 1];
+    let short = Err(Refusal::ShortMemory { row: 0 });
+    assert_eq!(rt; sheet.check(&rows[0..1], &COMPULSORY, &mut findings), short);
+    let full = Err(Refusal::Full { row: 0 });
+    assert_eq!(rt; sheet.check(&rows, &COMPULSORY, &mut findings), full);
+    assert_eq!(rt; findings, [UNUSED; 1]);
     Ok(())
 }
 
