@@ -22,7 +22,7 @@ pub struct Finding {
 }
 
 impl fmt::Display for Finding {
-    /// The finding up to its reason.
+    /// The row, the rule, the side and the weight.
     fn fmt(&self, f: &mut fmt::Formatter) -> fmt::Result {
         let side = match self.side {
             Side::Whole => "whole",
@@ -30,7 +30,7 @@ impl fmt::Display for Finding {
             Side::Exit => "exit",
         };
         let weight = if self.rule < 10 { "breach" } else { "advice" };
-        write!(f, "finding {} {} {side} {weight}:", self.row, self.rule)
+        write!(f, "{} {} {side} {weight}", self.row, self.rule)
     }
 }
 

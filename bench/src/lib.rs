@@ -1,6 +1,7 @@
 //! The rules of docs/RULES.md and the program of docs/PROGRAM.md, written a second time in plain Rust.
 //! Nothing here was taken from the crates, so that agreement of the two says something.
 
+pub mod alignment;
 pub mod check;
 pub mod fit;
 pub mod limits;

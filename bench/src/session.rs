@@ -2,6 +2,7 @@
 
 use std::fs;
 
+use crate::check::Finding;
 use crate::limits::{compulsory, least_length, parameter, Limit, Place, Table};
 use crate::parse::{parse, Command, Mistake, Name};
 use crate::road::{Group, Road};
@@ -103,7 +104,7 @@ impl Session {
             Ok(text) => text,
             Err(_) if line.trim_ascii_start().starts_with(b"#") => return Ok(Vec::new()),
             Err(error) => {
-                return Err(wrong(format!("after {} bytes the line is not UTF-8 text", error.valid_up_to())))
+                return Err(wrong(format!("after {} bytes the line is not UTF-8 text: save the file as UTF-8", error.valid_up_to())))
             }
         };
         let Some(command) = parse(text).map_err(mistaken)? else { return Ok(Vec::new()) };
@@ -167,7 +168,8 @@ fn opened(road: &Road) -> String {
 fn checked(open: &Open) -> Vec<Line> {
     let findings = open.sheet.check(&open.limits);
     let count = Line::Whole(format!("findings {}", findings.len()));
-    findings.iter().map(|finding| Line::Begins(finding.to_string())).chain([count]).collect()
+    let begins = |finding: &Finding| Line::Begins(format!("finding {finding}:"));
+    findings.iter().map(begins).chain([count]).collect()
 }
 
 impl Open {
@@ -215,7 +217,7 @@ impl Open {
             }
             Command::Rows => sheet.rows.iter().enumerate().map(listed).collect(),
             Command::Limit(names) => {
-                self.limits = names.iter().map(named).collect::<Result<_, _>>()?;
+                self.limits = named(&names)?;
                 vec![text.split_whitespace().collect::<Vec<_>>().join(" ")]
             }
             Command::Fit => {
@@ -237,8 +239,18 @@ impl Open {
     }
 }
 
-/// The limit of a name, with a table's file read.
-fn named(name: &Name) -> Result<Limit, Failure> {
+/// The limits of the names, with the tables' files read; the names begin at the second word of a line.
+fn named(names: &[Name]) -> Result<Vec<Limit>, Failure> {
+    let mut at = 1;
+    let limit = |name: &Name| {
+        at += if matches!(name, Name::Table(_)) { 2 } else { 1 };
+        one_named(name, at)
+    };
+    names.iter().map(limit).collect()
+}
+
+/// The limit of a name, whose last word stands at this place.
+fn one_named(name: &Name, at: usize) -> Result<Limit, Failure> {
     Ok(match name {
         Name::Comfort => Limit::Comfort,
         Name::Transition => Limit::Transition,
@@ -246,7 +258,7 @@ fn named(name: &Name) -> Result<Limit, Failure> {
         Name::Shift => Limit::Shift,
         Name::Fifth => Limit::Fifth,
         Name::Table(file) => {
-            let unread = |_| Failure::Wrong(Line::Begins(format!("cannot read '{file}': ")));
+            let unread = |_| Failure::Wrong(Line::Begins(format!("word {at} is {file:?}, a file that cannot be read: ")));
             Limit::Table(Table::read(&fs::read(file).map_err(unread)?))
         }
     })

@@ -1,5 +1,7 @@
 //! The superelevation of a radius (Table 4.5), in hundredths of a percent.
 
+use std::sync::OnceLock;
+
 use crate::road::Group;
 use crate::wide::Wide;
 
@@ -19,49 +21,69 @@ struct Formula {
     inner: u32,
 }
 
-const GROUP_1: TableRow = TableRow {
-    top: 800,
-    first: 1_050_000,
-    from_200: 5_000_000,
-    from_0: 7_500_000,
-    formula: Formula { factor: 1592, outer: 5, inner: 6 },
-};
+const GROUP_1: TableRow = TableRow::fast(1_050_000, Formula::new(1592, 5, 6));
 
-const GROUP_2: TableRow = TableRow {
-    top: 800,
-    first: 700_000,
-    from_200: 5_000_000,
-    from_0: 7_500_000,
-    formula: Formula { factor: 1460, outer: 10, inner: 13 },
-};
+const GROUP_2: TableRow = TableRow::fast(700_000, Formula::new(1460, 10, 13));
 
 const GROUP_3: TableRow = TableRow {
     top: 700,
     first: 350_000,
     from_200: 2_500_000,
     from_0: 3_500_000,
-    formula: Formula { factor: 1330, outer: 10, inner: 19 },
+    formula: Formula::new(1330, 10, 19),
 };
+
+impl Formula {
+    const fn new(factor: u64, outer: u32, inner: u32) -> Formula {
+        Formula { factor, outer, inner }
+    }
+}
+
+/// The radii where each group's superelevation drops by a hundredth, once they are tabulated.
+static DROPS: OnceLock<[Vec<u64>; 3]> = OnceLock::new();
 
 /// The superelevation of a radius in millimetres.
 pub fn superelevation(group: Group, radius: u64) -> u64 {
-    let row = match group {
-        Group::One => &GROUP_1,
-        Group::Two => &GROUP_2,
-        Group::Three => &GROUP_3,
-    };
+    let row = row_of(group);
     if radius >= row.from_0 {
         0
     } else if radius >= row.from_200 {
         200
     } else if radius <= row.first {
         row.top
+    } else if let Some(drops) = DROPS.get() {
+        row.top - drops[group as usize].partition_point(|&drop| drop <= radius) as u64
     } else {
         row.largest(radius)
     }
 }
 
+/// Has superelevations be looked up from here on, and no more computed for each radius.
+pub fn tabulate() {
+    DROPS.get_or_init(|| [Group::One, Group::Two, Group::Three].map(drops));
+}
+
+/// The radii where the group's superelevation drops, by its formula.
+fn drops(group: Group) -> Vec<u64> {
+    let row = row_of(group);
+    let first = |most| first_radius(group, most);
+    (200..row.top).rev().map(first).filter(|&radius| radius < row.from_200).collect()
+}
+
+fn row_of(group: Group) -> &'static TableRow {
+    match group {
+        Group::One => &GROUP_1,
+        Group::Two => &GROUP_2,
+        Group::Three => &GROUP_3,
+    }
+}
+
 impl TableRow {
+    /// The row of group 1 or 2, which differ in the formula and in where it begins.
+    const fn fast(first: u64, formula: Formula) -> TableRow {
+        TableRow { top: 800, first, from_200: 5_000_000, from_0: 7_500_000, formula }
+    }
+
     /// The largest value that the formula reaches to within a half, by halving.
     fn largest(&self, radius: u64) -> u64 {
         let Formula { factor, outer, inner } = self.formula;
@@ -145,6 +167,7 @@ mod tests {
             let steps: Vec<u64> = (last..top).map(|most| first_radius(group, most)).collect();
             assert!(steps.windows(2).all(|pair| pair[0] > pair[1]));
             assert_eq!(steps.len(), count);
+            assert!(drops(group).iter().eq(steps.iter().rev()));
         }
     }
 }

@@ -78,7 +78,7 @@ fn kind(answer: &Line) -> String {
     match words[..] {
         ["refused", number, ..] => format!("refused {number}"),
         ["finding", _, rule, side, ..] => format!("finding by rule {rule:0>2} {side}"),
-        ["error", _, "cannot", ..] => "error cannot read".to_string(),
+        ["error", _, "word", _, "is", _, "a", "file", ..] => "error cannot read".to_string(),
         ["error", _, first, .., last] => format!("error {first} .. {last}"),
         _ => words[0].to_string(),
     }

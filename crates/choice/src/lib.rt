@@ -1,6 +1,7 @@
 // A limit that is chosen by name at run time: one of the Norma's, or a client's table.
 #![tactic(auto)]
 
+pub mod governing;
 pub mod in_force;
 
 ghost use Rattle.std.specs.Prelude.{◌≡◌};

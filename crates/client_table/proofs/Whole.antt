@@ -15,7 +15,7 @@ use Rattle.limits.specs.Least.{Smallest, LeastOf}
 use Rattle.std.proofs.Common.{Some, None}
 use Rattle.std.proofs.lemmas.Bool.{cases_lt, le-leb, lt-leb}
 use Rattle.client_table.specs.declared.entry.Entry.{Entry}
-use Rattle.client_table.specs.Tables.{allows, Allows, entry_at_lem, each_allows, table, ByEntries}
+use Rattle.client_table.specs.Tables.{allows, Allows, entry_at, each_allows, table, ByEntries}
 
 fact : (a b : Bool) (least length : ℕ) → T (cond a (cond b (leb least length) true) true) → T a → T b → least ≤ length
 fact true true least length t here there = leb→le least length t
@@ -36,30 +36,30 @@ pub →allows : (entry : Entry) (radius length : ℕ) → Allows entry radius le
     test (leb entry.first_radius radius) (leb radius entry.last_radius) entry.least_length length
     (λ from to. allowed (leb→le _ _ from) (leb→le _ _ to))
 
-each→ : (bytes : List ℕ) (n radius length : ℕ) → T (each_allows bytes n radius length) → (k : ℕ) → k < n → Allows (entry_at_lem bytes k) radius length
+each→ : (bytes : List ℕ) (n radius length : ℕ) → T (each_allows bytes n radius length) → (k : ℕ) → k < n → Allows (entry_at bytes k) radius length
 unfolding each_allows
 each→ bytes zero radius length t k below = absurd (omega arith)
 each→ bytes (suc n) radius length t k below =
-    let parts = and_parts (allows (entry_at_lem bytes n) radius length) (each_allows bytes n radius length) t in
+    let parts = and_parts (allows (entry_at bytes n) radius length) (each_allows bytes n radius length) t in
     elim (eq-or-lt_of_le (le_of_suc-le-suc below)) [
-      | inl last ↦ rw last (allows→ (entry_at_lem bytes n) radius length parts.0)
+      | inl last ↦ rw last (allows→ (entry_at bytes n) radius length parts.0)
       | inr before ↦ each→ bytes n radius length parts.1 k before
     ]
 
-→each : (bytes : List ℕ) (n radius length : ℕ) → ((k : ℕ) → k < n → Allows (entry_at_lem bytes k) radius length) → T (each_allows bytes n radius length)
+→each : (bytes : List ℕ) (n radius length : ℕ) → ((k : ℕ) → k < n → Allows (entry_at bytes k) radius length) → T (each_allows bytes n radius length)
 unfolding each_allows
 →each bytes zero radius length all = tt
 →each bytes (suc n) radius length all =
-    and (allows (entry_at_lem bytes n) radius length) (each_allows bytes n radius length)
-    (→allows (entry_at_lem bytes n) radius length (all n (omega arith))) (→each bytes n radius length (λ k below. all k (omega arith)))
+    and (allows (entry_at bytes n) radius length) (each_allows bytes n radius length)
+    (→allows (entry_at bytes n) radius length (all n (omega arith))) (→each bytes n radius length (λ k below. all k (omega arith)))
 
 module _ (bytes : List ℕ) (place : Place) (length : ℕ) where
-  pub admitted→ : T (table bytes place length) → (length ≤ 2_000_000) × ((index : ℕ) → 12 * index + 12 ≤ count bytes → Allows (entry_at_lem bytes index) place.radius length)
+  pub admitted→ : T (table bytes place length) → (length ≤ 2_000_000) × ((index : ℕ) → 12 * index + 12 ≤ count bytes → Allows (entry_at bytes index) place.radius length)
   admitted→ t =
       let parts = and_parts (leb length 2_000_000) (each_allows bytes (count bytes / 12) place.radius length) t in
       (leb→le length 2_000_000 parts.0, λ index whole. each→ bytes (count bytes / 12) place.radius length parts.1 index (omega arith))
 
-  pub →admitted : length ≤ 2_000_000 → ((index : ℕ) → 12 * index + 12 ≤ count bytes → Allows (entry_at_lem bytes index) place.radius length) → T (table bytes place length)
+  pub →admitted : length ≤ 2_000_000 → ((index : ℕ) → 12 * index + 12 ≤ count bytes → Allows (entry_at bytes index) place.radius length) → T (table bytes place length)
   →admitted top all =
       and (leb length 2_000_000) (each_allows bytes (count bytes / 12) place.radius length) (le→leb length 2_000_000 top)
       (→each bytes (count bytes / 12) place.radius length (λ k below. all k (omega arith)))
@@ -72,7 +72,7 @@ module _ (bytes : List ℕ) (place : Place) (length : ℕ) where
   })
 
 -- the largest that the entries want, where it is not above the longest
-pub least_of : (bytes : List ℕ) (place : Place) (wanted : ℕ) → Smallest (λ length. (index : ℕ) → 12 * index + 12 ≤ count bytes → Allows (entry_at_lem bytes index) place.radius length) wanted → LeastOf (In (table bytes place)) (cond (leb wanted 2_000_000) (Some wanted) None)
+pub least_of : (bytes : List ℕ) (place : Place) (wanted : ℕ) → Smallest (λ length. (index : ℕ) → 12 * index + 12 ≤ count bytes → Allows (entry_at bytes index) place.radius length) wanted → LeastOf (In (table bytes place)) (cond (leb wanted 2_000_000) (Some wanted) None)
 least_of bytes place wanted all = elim (cases_lt 2_000_000 wanted) [
   | inl above ↦ rw (lt-leb wanted 2_000_000 above) (λ length t. omega (arith, (admitted→ bytes place length t).0, all.least length (admitted→ bytes place length t).1))
   | inr within ↦ rw (le-leb wanted 2_000_000 within) (record {

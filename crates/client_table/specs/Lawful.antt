@@ -1,10 +1,10 @@
--- Proof that with a length a table admits every longer one up to the longest. There is nothing here to believe.
+-- Proof that a client's table is lawful. There is nothing here to believe.
 use Rattle.std.specs.Prelude.{Bool, true, false, cond, List, ℕ, zero, suc, ◌/◌, ◌≤◌, T, leb, length as count}
 use Rattle.std.proofs.Common.{le_trans, leb→le, le→leb}
 use Rattle.limits.specs.declared.place.Place.{Place}
 use Rattle.limits.specs.Admission.{UpToLongest}
 use Rattle.limits.specs.Lawful.{and, and_parts, capped_lawful}
-use Rattle.client_table.specs.Tables.{allows, entry_at_lem, each_allows, table}
+use Rattle.client_table.specs.Tables.{allows, entry_at, each_allows, table}
 
 unless_rises : (a b : Bool) (least short long : ℕ) → short ≤ long → T (cond a (cond b (leb least short) true) true) → T (cond a (cond b (leb least long) true) true)
 unless_rises true true least short long le t = le→leb least long (le_trans (leb→le least short t) le)
@@ -15,7 +15,7 @@ pub each_rises : (bytes : List ℕ) (n radius short long : ℕ) → short ≤ lo
 unfolding each_allows
 each_rises bytes zero radius short long le t = tt
 each_rises bytes (suc n) radius short long le t =
-    let entry = entry_at_lem bytes n in
+    let entry = entry_at bytes n in
     let parts = and_parts (allows entry radius short) (each_allows bytes n radius short) t in
     and (allows entry radius long) (each_allows bytes n radius long)
     (unless_rises (leb entry.first_radius radius) (leb radius entry.last_radius) entry.least_length short long le parts.0)

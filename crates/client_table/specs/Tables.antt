@@ -4,13 +4,13 @@ use Rattle.limits.specs.declared.place.Place.{Place}
 use Rattle.limits.specs.Admission.{up_to_longest}
 use Rattle.client_table.specs.declared.entry.Entry.{Entry}
 
--- Four bytes, high byte first.
+-- The number that four bytes are, high byte first. A byte past the end counts as 0 here; no whole entry has one.
 abbrev pub number_at : List ℕ → ℕ → ℕ
 number_at bytes at = get_or bytes at 0 * 16_777_216 + get_or bytes (at + 1) 0 * 65_536 + get_or bytes (at + 2) 0 * 256 + get_or bytes (at + 3) 0
 
--- An entry is a first radius, a last radius and a least length.
-abbrev pub entry_at_lem : List ℕ → ℕ → Entry
-entry_at_lem bytes index = record {
+-- Entry `index` of the bytes, from 0: twelve bytes, for a first radius, a last radius and a least length.
+abbrev pub entry_at : List ℕ → ℕ → Entry
+entry_at bytes index = record {
   first_radius = number_at bytes (12 * index);
   last_radius = number_at bytes (12 * index + 4);
   least_length = number_at bytes (12 * index + 8);
@@ -24,22 +24,22 @@ allows entry radius length =
 abbrev pub Allows : Entry → (radius length : ℕ) → Type 0
 Allows entry radius length = entry.first_radius ≤ radius → radius ≤ entry.last_radius → entry.least_length ≤ length
 
--- The least length that the entry lets a curve of that radius have.
+-- The least length that the entry lets a curve of that radius have. Only a private contract cites this.
 abbrev pub wanted : Entry → (radius : ℕ) → ℕ
 wanted entry radius = cond (leb entry.first_radius radius) (cond (leb radius entry.last_radius) entry.least_length 0) 0
 
 -- Each of the first n entries allows the length.
 unfoldable pub each_allows : List ℕ → ℕ → (radius length : ℕ) → Bool
 each_allows bytes zero radius length = true
-each_allows bytes (suc n) radius length = cond (allows (entry_at_lem bytes n) radius length) (each_allows bytes n radius length) false
+each_allows bytes (suc n) radius length = cond (allows (entry_at bytes n) radius length) (each_allows bytes n radius length) false
 
 -- The table admits the lengths up to the longest that each whole entry allows. A last entry cut short does not count.
 abbrev pub table : List ℕ → Place → ℕ → Bool
 table bytes place = up_to_longest (each_allows bytes (count bytes / 12) place.radius)
 
--- The same in terms of entries: the answer is yes exactly for the lengths up to the longest
+-- The table in terms of its entries: the answer is yes exactly for the lengths up to the longest
 -- of which no entry that stands whole in the bytes and has the radius wants more.
 pub record ByEntries (bytes : List ℕ) (place : Place) (length : ℕ) (answer : Bool) : Type 0 where
   pub capped : T answer → length ≤ 2_000_000
-  pub holds : T answer → (index : ℕ) → 12 * index + 12 ≤ count bytes → Allows (entry_at_lem bytes index) place.radius length
-  pub suffices : length ≤ 2_000_000 → ((index : ℕ) → 12 * index + 12 ≤ count bytes → Allows (entry_at_lem bytes index) place.radius length) → T answer
+  pub holds : T answer → (index : ℕ) → 12 * index + 12 ≤ count bytes → Allows (entry_at bytes index) place.radius length
+  pub suffices : length ≤ 2_000_000 → ((index : ℕ) → 12 * index + 12 ≤ count bytes → Allows (entry_at bytes index) place.radius length) → T answer

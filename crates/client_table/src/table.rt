@@ -1,7 +1,7 @@
 // The table as a limit.
 ghost use Rattle.std.specs.Prelude.{◌+◌, ◌*◌, ◌≤◌, ◌≡◌, ℕ, length as count};
 ghost use Rattle.limits.specs.Least.{Smallest};
-ghost use Rattle.client_table.specs.Tables.{entry_at_lem, Allows, table, ByEntries};
+ghost use Rattle.client_table.specs.Tables.{entry_at, Allows, table, ByEntries};
 ghost use Rattle.client_table.specs.Lawful.{table_lawful};
 
 use crate::entry::Entry;
@@ -17,7 +17,7 @@ pub struct ClientTable<'a> {
 impl ClientTable<'_> {
     // The least length that every entry lets a curve of that radius have: the largest that an entry wants.
     fn wanted(&self, radius: u32) -> u32
-        ensures { Smallest (λ length. (index : ℕ) → 12 * index + 12 ≤ count self.now.bytes.now → Allows (entry_at_lem self.now.bytes.now index) radius length) result }
+        ensures { Smallest (λ length. (index : ℕ) → 12 * index + 12 ≤ count self.now.bytes.now → Allows (entry_at self.now.bytes.now index) radius length) result }
     {
         let (entries, _cut_short) = self.bytes.as_chunks::<{ Entry::BYTES }>();
         entries

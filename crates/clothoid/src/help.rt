@@ -86,6 +86,23 @@ Rows are counted from 0.
       reopen
       reopened
 
+  report
+      Shows the sheet as a table in metres, gon and percent: its road, its mark, the
+      limits in force with their numbers, and each row; for a curve its superelevation,
+      the lengths of its clothoids and their parameters, the least length that the
+      limits admit there, and which limit that comes from. Below it stands what a check
+      finds, with the figures that decide it.
+      report
+      road C-100, group 2, least radius 450.000 m, edge distance 3.500 m, lanes turning 1, J 0.4 m/s3
+      draft, 1 row
+      limits: 1 azimuth
+
+       row  kind           length    radius      turn         p     entry         A      exit         A     least  governed by
+                                m         m       gon         %         m         m         m         m         m
+         0  curve left             1000.000   30.0000      6.47   111.112   333.335   111.112   333.335   111.112  1 azimuth
+
+      0 findings
+
 Numbers are digits only. Blank lines and lines that begin with # are skipped.
 A command whose operands are refused answers 'refused NUMBER ROW: ' and the reason,
 and changes nothing. A line that is no command, or is longer than 16384 bytes, or

@@ -28,8 +28,8 @@ fn verdict(heap: Global, wrong: u64) -> anyhow::Result<()>
 fn answer_file(rt: &HostRuntime, name: &str) -> anyhow::Result<()> {
     let heap = rt.alloc();
     match fs::open(rt, name) {
-        Ok(file) => verdict(heap, answer_all(rt, file)?),
-        Err(e) => Err(anyhow!(format!(in heap; "cannot open '{name}': {e}")?)),
+        Ok(file) => verdict(heap, answer_all(rt, file, name)?),
+        Err(e) => Err(anyhow!(format!(in heap; "cannot open {name:?}: {e}")?)),
     }
 }
 
@@ -37,7 +37,7 @@ fn run(rt: &HostRuntime) -> anyhow::Result<()> {
     let mut args = env::args(rt)?;
     let _ = args.next();
     let Some(word) = args.next() else {
-        return verdict(rt.alloc(), answer_all(rt, rt.stdin())?);
+        return verdict(rt.alloc(), answer_all(rt, rt.stdin(), "standard input")?);
     };
     if args.next().is_some() {
         return Err(anyhow!(format!(in rt.alloc(); "more than one argument; {USAGE}")?));
@@ -45,6 +45,10 @@ fn run(rt: &HostRuntime) -> anyhow::Result<()> {
     if word.as_str() == "--help" || word.as_str() == "-h" {
         print!(rt; "{USAGE}\n\n{HELP}")?;
         return Ok(());
+    }
+    if word.as_str().starts_with('-') {
+        let option = word.as_str();
+        return Err(anyhow!(format!(in rt.alloc(); "unknown option {option:?}; {USAGE}")?));
     }
     answer_file(rt, word.as_str())
 }

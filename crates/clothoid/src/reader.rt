@@ -35,8 +35,12 @@ fn answer_chunk<W: Write>(
     Ok(())
 }
 
-// Answers every line of the reader, and says how many were no commands.
-pub(crate) fn answer_all<R: Read + Drop>(rt: &HostRuntime, mut reader: R) -> anyhow::Result<u64> {
+// Answers every line of the reader, whose name is handed in, and says how many were no commands.
+pub(crate) fn answer_all<R: Read + Drop>(
+    rt: &HostRuntime,
+    mut reader: R,
+    name: &str,
+) -> anyhow::Result<u64> {
     let heap = rt.alloc();
     let mut out = BufWriter::new(heap, rt.stdout())?;
     let mut session = Session::new(heap)?;
@@ -47,7 +51,7 @@ pub(crate) fn answer_all<R: Read + Drop>(rt: &HostRuntime, mut reader: R) -> any
         let count = match reader.read(buffer.as_mut_slice()) {
             Ok(0) => break,
             Ok(count) => count,
-            Err(e) => return Err(anyhow!(format!(in heap; "cannot read: {e}")?)),
+            Err(e) => return Err(anyhow!(format!(in heap; "cannot read {name:?}: {e}")?)),
         };
         answer_chunk(
             rt,

@@ -3,10 +3,11 @@ use Rattle.std.proofs.Common.{◌≡◌, ℕ, ◌+◌, ◌-◌, ◌<◌, ◌≤�
 use Rattle.std.specs.Borrow.{Bor}
 use Rattle.std.proofs.lemmas.List.{take_more}
 use Rattle.std.proofs.lemmas.Grind.{get_or_after_one}
-use Rattle.commands.specs.declared.limit_name.LimitName.{LimitName}
-use Rattle.commands.specs.declared.limit_name.LimitName.TheVariants.{Comfort, Transition, Azimuth, Shift, Fifth, Table}
+use Rattle.limit_names.specs.declared.LimitName.{LimitName}
+use Rattle.limit_names.specs.declared.LimitName.TheVariants.{Comfort, Transition, Azimuth, Shift, Fifth, Table}
 use Rattle.commands.specs.Words.{none, word}
-use Rattle.commands.specs.Names.{limit_word, Plain, Names}
+use Rattle.limit_names.specs.Names.{limit_word}
+use Rattle.commands.specs.Names.{Plain, Names}
 use Rattle.commands.specs.Mistakes.{NamesBefore}
 
 pub plain_name : (w : List ℕ) (name : LimitName) → w ≡ limit_word name → (name ≡ Table → ⊥) → Plain w

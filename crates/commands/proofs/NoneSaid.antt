@@ -9,14 +9,15 @@ use Rattle.plain.specs.declared.NewRow.TheVariants as new
 use Rattle.commands.specs.declared.command.Command.{Command}
 use Rattle.commands.specs.declared.command.Command.TheVariants as command
 use Rattle.commands.specs.declared.command.SheetCommand.TheVariants as sheet
-use Rattle.commands.specs.declared.limit_name.LimitName.TheVariants.{Table}
+use Rattle.limit_names.specs.declared.LimitName.TheVariants.{Table}
 use Rattle.commands.specs.declared.name.Name.{Name}
-use Rattle.commands.specs.declared.name.Name.TheVariants.{Road, Label, Straight, Curve, Remove, Set, Rows, Limit, Check, Fit, Parameter, Reopen}
+use Rattle.commands.specs.declared.name.Name.TheVariants.{Road, Label, Straight, Curve, Remove, Set, Rows, Report, Limit, Check, Fit, Parameter, Reopen}
 use Rattle.commands.specs.declared.mistake.Expected.{Expected}
 use Rattle.commands.specs.declared.mistake.Expected.TheVariants as want
 use Rattle.commands.specs.declared.mistake.ParseError.{ParseError}
 use Rattle.commands.specs.Words.{none, word}
-use Rattle.commands.specs.Names.{name_word, name_of, ALimit, Names}
+use Rattle.limit_names.specs.Names.{ALimit}
+use Rattle.commands.specs.Names.{name_word, name_of, Names}
 use Rattle.commands.specs.Mistakes.{Blames, Wanted, MayEnd, Wrong, LimitAt, StandsAt, Expects}
 use Rattle.commands.specs.Said.{Operands, Says}
 use Rattle.commands.proofs.NameSteps.{left_over, after_first}
@@ -213,6 +214,7 @@ right ws (command.Sheet (sheet.Parameter row end)) said at x some stands =
     ) stands
 right ws (command.Sheet sheet.Reopen) said at x some stands = right_in ws (want.EndOfLine ∷ []) at x some (ended ws 1 said, tt) stands
 right ws command.Rows said at x some stands = right_in ws (want.EndOfLine ∷ []) at x some (ended ws 1 said, tt) stands
+right ws command.Report said at x some stands = right_in ws (want.EndOfLine ∷ []) at x some (ended ws 1 said, tt) stands
 right ws command.Limit said at x some stands = right_limit ws at x said.0 said.1 said.2 some stands
 
 name_called : List ℕ → Name
@@ -224,10 +226,11 @@ name_called w =
     cond (bytes_eq w (codes "remove")) Remove (
     cond (bytes_eq w (codes "set")) Set (
     cond (bytes_eq w (codes "rows")) Rows (
+    cond (bytes_eq w (codes "report")) Report (
     cond (bytes_eq w (codes "limit")) Limit (
     cond (bytes_eq w (codes "check")) Check (
     cond (bytes_eq w (codes "fit")) Fit (
-    cond (bytes_eq w (codes "parameter")) Parameter Reopen))))))))))
+    cond (bytes_eq w (codes "parameter")) Parameter Reopen)))))))))))
 
 called : (n : Name) → name_called (name_word n) ≡ n
 unfolding name_called
@@ -238,6 +241,7 @@ called Curve = refl
 called Remove = refl
 called Set = refl
 called Rows = refl
+called Report = refl
 called Limit = refl
 called Check = refl
 called Fit = refl

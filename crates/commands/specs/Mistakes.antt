@@ -9,11 +9,12 @@ use Rattle.rows.specs.declared.end.End.{End}
 use Rattle.rows.specs.declared.row.Sense.{Sense}
 use Rattle.rows.specs.Ends.{end_word}
 use Rattle.commands.specs.declared.name.Name.{Name}
-use Rattle.commands.specs.declared.name.Name.TheVariants.{Road, Label, Straight, Curve, Remove, Set, Rows, Limit, Check, Fit, Parameter, Reopen}
+use Rattle.commands.specs.declared.name.Name.TheVariants.{Road, Label, Straight, Curve, Remove, Set, Rows, Report, Limit, Check, Fit, Parameter, Reopen}
 use Rattle.commands.specs.declared.mistake.Expected.{Expected}
 use Rattle.commands.specs.declared.mistake.Expected.TheVariants as want
 use Rattle.commands.specs.declared.mistake.ParseError.{ParseError}
-use Rattle.commands.specs.Names.{name_word, ALimit, Names}
+use Rattle.limit_names.specs.Names.{ALimit}
+use Rattle.commands.specs.Names.{name_word, Names}
 use Rattle.commands.specs.Words.{word, choice_word, sense_word}
 
 -- the error names a word of the line and its place, counted from 1, or the place after the last word
@@ -73,6 +74,7 @@ StandsAt Curve ws = In (want.Sense ∷ want.Number ∷ want.Number ∷ want.Befo
 StandsAt Remove ws = In (want.Number ∷ want.EndOfLine ∷ [])
 StandsAt Set ws = In (want.Number ∷ want.Number ∷ want.Number ∷ want.EndOfLine ∷ [])
 StandsAt Rows ws = In (want.EndOfLine ∷ [])
+StandsAt Report ws = In (want.EndOfLine ∷ [])
 StandsAt Check ws = In (want.EndOfLine ∷ [])
 StandsAt Fit ws = In (want.EndOfLine ∷ [])
 StandsAt Parameter ws = In (want.Number ∷ want.End ∷ want.EndOfLine ∷ [])

@@ -1,15 +1,14 @@
 -- The words that commands begin with, and those that name limits.
 use Rattle.std.specs.Prelude.{◌≡◌, ℕ, ◌⊎◌, List, [], ◌∷◌, codes}
 use Rattle.std.specs.Borrow.{Bor}
+use Rattle.limit_names.specs.Names.{ALimit}
 use Rattle.plain.specs.declared.NewRow.TheVariants as new
 use Rattle.commands.specs.declared.command.Command.{Command}
 use Rattle.commands.specs.declared.command.Command.TheVariants as command
 use Rattle.commands.specs.declared.command.SheetCommand.{SheetCommand}
 use Rattle.commands.specs.declared.command.SheetCommand.TheVariants as sheet
 use Rattle.commands.specs.declared.name.Name.{Name}
-use Rattle.commands.specs.declared.name.Name.TheVariants.{Road, Label, Straight, Curve, Remove, Set, Rows, Limit, Check, Fit, Parameter, Reopen}
-use Rattle.commands.specs.declared.limit_name.LimitName.{LimitName}
-use Rattle.commands.specs.declared.limit_name.LimitName.TheVariants.{Comfort, Transition, Azimuth, Shift, Fifth, Table}
+use Rattle.commands.specs.declared.name.Name.TheVariants.{Road, Label, Straight, Curve, Remove, Set, Rows, Report, Limit, Check, Fit, Parameter, Reopen}
 
 abbrev pub name_word : Name → List ℕ
 name_word Road = codes "road"
@@ -19,6 +18,7 @@ name_word Curve = codes "curve"
 name_word Remove = codes "remove"
 name_word Set = codes "set"
 name_word Rows = codes "rows"
+name_word Report = codes "report"
 name_word Limit = codes "limit"
 name_word Check = codes "check"
 name_word Fit = codes "fit"
@@ -42,19 +42,8 @@ name_of (command.Road design) = Road
 name_of (command.Label radius turn) = Label
 name_of (command.Sheet call) = name_of_call call
 name_of command.Rows = Rows
+name_of command.Report = Report
 name_of command.Limit = Limit
-
-abbrev pub limit_word : LimitName → List ℕ
-limit_word Comfort = codes "comfort"
-limit_word Transition = codes "transition"
-limit_word Azimuth = codes "azimuth"
-limit_word Shift = codes "shift"
-limit_word Fifth = codes "fifth"
-limit_word Table = codes "table"
-
--- w is the name of a limit
-abbrev pub ALimit : List ℕ → Type 0
-ALimit w = (name : LimitName) × (w ≡ limit_word name)
 
 -- the name of a limit that needs no file
 abbrev pub Plain : List ℕ → Type 0

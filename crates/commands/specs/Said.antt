@@ -5,7 +5,7 @@ use Rattle.road.specs.Words.{class_word}
 use Rattle.rows.specs.Ends.{end_word}
 use Rattle.plain.specs.declared.NewRow.TheVariants as new
 use Rattle.commands.specs.declared.command.Command.{Command}
-use Rattle.commands.specs.declared.command.Command.TheVariants.{Road, Label, Sheet, Rows, Limit}
+use Rattle.commands.specs.declared.command.Command.TheVariants.{Road, Label, Sheet, Rows, Report, Limit}
 use Rattle.commands.specs.declared.command.SheetCommand.TheVariants.{Add, Remove, Set, Check, Fit, Parameter, Reopen}
 use Rattle.commands.specs.declared.name.Name.{Name}
 use Rattle.commands.specs.declared.mistake.ParseError.{ParseError}
@@ -36,6 +36,7 @@ Operands ws (Sheet Fit) = length ws ≡ 1
 Operands ws (Sheet (Parameter row at)) = (length ws ≡ 3) × Spells (word ws 1) row × (word ws 2 ≡ end_word at)
 Operands ws (Sheet Reopen) = length ws ≡ 1
 Operands ws Rows = length ws ≡ 1
+Operands ws Report = length ws ≡ 1
 Operands ws Limit = (1 < length ws) × (length ws < 64) × Names (drop 1 ws)
 
 -- the words ws say the command

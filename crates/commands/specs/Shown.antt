@@ -11,9 +11,9 @@ use Rattle.commands.specs.declared.mistake.Expected.TheVariants.{Command, Class,
 
 -- what should have stood there, in plain words
 abbrev pub expected_text : Expected → List ℕ
-expected_text Command = codes "a command: road, label, straight, curve, remove, set, rows, limit, check, fit, parameter or reopen"
+expected_text Command = codes "a command: road, label, straight, curve, remove, set, rows, report, limit, check, fit, parameter or reopen"
 expected_text Class = codes "a class: A, M or C"
-expected_text Number = codes "a number: digits only"
+expected_text Number = codes "a whole number: digits alone, without a point or a unit"
 expected_text JerkChoice = codes "usual or top"
 expected_text Sense = codes "left or right"
 expected_text End = codes "entry or exit"

@@ -73,6 +73,8 @@ pub enum Command {
     Sheet(SheetCommand),
     // asks for the rows
     Rows,
+    // asks for the whole sheet as a table
+    Report,
     // chooses the limits, by the names that the words after the first are
     Limit,
 }
@@ -86,6 +88,7 @@ impl Command {
             Command::Label { .. } => Name::Label,
             Command::Sheet(call) => call.name(),
             Command::Rows => Name::Rows,
+            Command::Report => Name::Report,
             Command::Limit => Name::Limit,
         }
     }

@@ -2,7 +2,6 @@
 #![tactic(auto)]
 
 pub mod command;
-pub mod limit_name;
 pub mod mistake;
 pub mod name;
 mod operand;

@@ -27,9 +27,9 @@ impl fmt::Display for Expected {
     fn fmt<W: fmt::Write>(&self, f: &mut fmt::Formatter<W>) -> fmt::Result {
         f.write_str(match self {
             Expected::Command =>
-                "a command: road, label, straight, curve, remove, set, rows, limit, check, fit, parameter or reopen",
+                "a command: road, label, straight, curve, remove, set, rows, report, limit, check, fit, parameter or reopen",
             Expected::Class => "a class: A, M or C",
-            Expected::Number => "a number: digits only",
+            Expected::Number => "a whole number: digits alone, without a point or a unit",
             Expected::JerkChoice => "usual or top",
             Expected::Sense => "left or right",
             Expected::End => "entry or exit",

@@ -3,14 +3,15 @@ ghost use Rattle.std.specs.Prelude.{◌≡◌, List, ℕ, MatchOption, ⊤};
 ghost use Rattle.road.specs.Words.{class_word};
 ghost use Rattle.rows.specs.Ends.{end_word};
 ghost use Rattle.commands.specs.Words.{Spells, choice_word, sense_word};
-ghost use Rattle.commands.specs.Names.{name_word, limit_word};
+ghost use Rattle.commands.specs.Names.{name_word};
+ghost use Rattle.limit_names.specs.Names.{limit_word};
 ghost use Rattle.commands.specs.Mistakes.{Wanted, MayEnd};
 ghost use Rattle.commands.specs.declared.mistake.Expected.{Expected};
 ghost use Rattle.commands.specs.declared.mistake.Expected.TheVariants as want;
 
-use crate::limit_name::{LimitName, limit_name};
 use crate::mistake::Expected;
 use crate::name::Name;
+use limit_names::{LimitName, limit_name};
 use road::class::Class;
 use road::jerk::JerkChoice;
 use rows::end::End;
@@ -187,6 +188,7 @@ impl Operand for Name {
             "remove" => Some(Name::Remove),
             "set" => Some(Name::Set),
             "rows" => Some(Name::Rows),
+            "report" => Some(Name::Report),
             "limit" => Some(Name::Limit),
             "check" => Some(Name::Check),
             "fit" => Some(Name::Fit),

@@ -9,10 +9,10 @@ ghost use Rattle.commands.specs.Mistakes.{Blames, Wrong, BeforeAt, NamesBefore, 
 ghost use Rattle.commands.specs.Said.{BeforeFrom, ReadAs, Parsed, Answers};
 
 use crate::command::{Command, SheetCommand};
-use crate::limit_name::LimitName;
 use crate::mistake::{Expected, ParseError};
 use crate::name::Name;
 use crate::operand::{FileName, Operand};
+use limit_names::LimitName;
 use plain::NewRow;
 use road::design::RoadDesign;
 use text::words::words_of;
@@ -158,6 +158,14 @@ impl<'a> Cursor<'_, 'a> {
         Ok(Command::Rows)
     }
 
+    fn report(&self) -> Result<Command, ParseError<'a>>
+        requires { (self.now.at ≡ 1) × (word self.now.words.now 0 ≡ codes "report") }
+        ensures { ReadAs name.Report self.now.words.now result }
+    {
+        self.end()?;
+        Ok(Command::Report)
+    }
+
     fn check(&self) -> Result<Command, ParseError<'a>>
         requires { (self.now.at ≡ 1) × (word self.now.words.now 0 ≡ codes "check") }
         ensures { ReadAs name.Check self.now.words.now result }
@@ -235,6 +243,7 @@ fn command<'a>(words: &[&'a str]) -> Result<Command, ParseError<'a>>
         Name::Remove => cursor.remove(),
         Name::Set => cursor.set(),
         Name::Rows => cursor.rows(),
+        Name::Report => cursor.report(),
         Name::Limit => cursor.limit(),
         Name::Check => cursor.check(),
         Name::Fit => cursor.fit(),

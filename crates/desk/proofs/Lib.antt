@@ -1,3 +1,4 @@
 pub mod Prints
 pub mod Pages
+pub mod Reports
 pub mod Stretches

@@ -1,30 +1,36 @@
 -- Texts that are written one after the other.
-use Rattle.std.proofs.Common.{◌≡◌, ℕ, ◌+◌, ◌<◌, List, [], ◌∷◌, ◌++◌, map, take, length, get_or, Option, Some, None, Result, Ok, Err, OnOk, refl, sym, ap, ◌∙◌, subst, append_assoc, add-zero, arith}
+use Rattle.std.proofs.Common.{◌≡◌, ℕ, ◌+◌, ◌<◌, List, [], ◌∷◌, ◌++◌, map, take, length, get_or, Option, Result, Ok, Err, OnOk, refl, sym, ap, ◌∙◌, subst, append_assoc, add-zero, arith}
 use Rattle.std.specs.Io.KnownBytes.{Appends}
 use Rattle.std.proofs.lemmas.List.{append-nil, map_more, length-map, length-take-le}
 use Rattle.rows.specs.declared.record.RowRecord.{RowRecord}
 use Rattle.rows.specs.declared.row.Row.{Row}
 use Rattle.rows.specs.Reading.{row_of}
-use Rattle.answers.specs.declared.answer.Answer.TheVariants.{Found}
 use Rattle.answers.specs.declared.set_out.SetOut.{SetOut}
 use Rattle.answers.specs.SetOut.{SetsOut}
-use Rattle.answers.specs.Shown.{answer_text, set_out_text}
-use Rattle.desk.specs.Printing.{as_line, SetOutList}
-
-pub append_both : (old mid new : Option (List ℕ)) (xs ys : List ℕ) → Appends old mid xs → Appends mid new ys → Appends old new (xs ++ ys)
-append_both None mid new xs ys p q = tt
-append_both (Some a) None new xs ys p q = absurd p
-append_both (Some a) (Some b) None xs ys p q = absurd q
-append_both (Some a) (Some b) (Some c) xs ys p q = q ∙ ap (λ l. l ++ ys) p ∙ append_assoc a xs ys
+use Rattle.report.proofs.Tables.{append_both}
+use Rattle.answers.specs.Shown.{row_text, set_out_text}
+use Rattle.desk.specs.Printing.{as_line, rows_text, SetOutList}
 
 pub then_ok : {A E P Q : Type 0} (r : Result A E) → (P → Q) → OnOk r P → OnOk r Q
 then_ok (Ok x) f p = f p
 then_ok (Err e) f p = p
 
--- the count of findings after their words
-pub found_after : {W A E : Type 0} (contents : W → Option (List ℕ)) (worded new : W) (r : Result A E) (n k : ℕ) → n ≡ k → OnOk r (Appends (contents worded) (contents new) (as_line (answer_text (Found n)))) → OnOk r ((mid : W) × Appends (contents mid) (contents new) (as_line (answer_text (Found k))))
-found_after contents worded new (Ok x) n k is wrote = (worded, subst (λ m. Appends (contents worded) (contents new) (as_line (answer_text (Found m)))) is wrote)
-found_after contents worded new (Err e) n k is wrote = wrote
+-- a row more is listed
+rows_more : (place : ℕ) (rows : List Row) (r : Row) → rows_text place (rows ++ r ∷ []) ≡ rows_text place rows ++ as_line (row_text (place + length rows) r)
+rows_more place [] r = append-nil (as_line (row_text place r)) ∙ ap (λ n. as_line (row_text n r)) (sym (add-zero place))
+rows_more place (o ∷ rows) r =
+    let further : (place + 1) + length rows ≡ place + length (o ∷ rows) = omega arith in
+    ap (λ l. as_line (row_text place o) ++ l) (rows_more (place + 1) rows r ∙ ap (λ n. rows_text (place + 1) rows ++ as_line (row_text n r)) further)
+    ∙ sym (append_assoc (as_line (row_text place o)) (rows_text (place + 1) rows) (as_line (row_text (place + length (o ∷ rows)) r)))
+
+-- the same of the rows that records stand for
+pub rows_next : (old mid new : Option (List ℕ)) (records : List RowRecord) (i : ℕ) (d : RowRecord) (r : Row) → i < length records → r ≡ row_of (get_or records i d) → Appends old mid (rows_text 0 (map row_of (take i records))) → Appends mid new (as_line (row_text i r)) → Appends old new (rows_text 0 (map row_of (take (i + 1) records)))
+rows_next old mid new records i d r within is before now =
+    let place : i ≡ 0 + length (map row_of (take i records)) = omega (arith, length-map (take i records) row_of, length-take-le i records (omega arith)) in
+    let rows : map row_of (take i records) ++ r ∷ [] ≡ map row_of (take (i + 1) records) = ap (λ x. map row_of (take i records) ++ x ∷ []) is ∙ sym (map_more row_of records i d within) in
+    let last : rows_text 0 (map row_of (take i records)) ++ as_line (row_text i r) ≡ rows_text 0 (map row_of (take (i + 1) records)) =
+    ap (λ n. rows_text 0 (map row_of (take i records)) ++ as_line (row_text n r)) place ∙ sym (rows_more 0 (map row_of (take i records)) r) ∙ ap (rows_text 0) rows in
+    subst (Appends old new) last (append_both old mid new (rows_text 0 (map row_of (take i records))) (as_line (row_text i r)) before now)
 
 -- a row more is set out
 set_out_more : (place : ℕ) (rows : List Row) (text : List ℕ) (r : Row) (last : SetOut) → SetOutList place rows text → SetsOut (place + length rows) r last → SetOutList place (rows ++ r ∷ []) (text ++ as_line (set_out_text last))

@@ -12,8 +12,8 @@ use Rattle.choice.specs.declared.in_force.LimitsInForce.TheVariants.{Compulsory}
 use Rattle.rows.specs.declared.record.RowRecord.{RowRecord}
 use Rattle.findings.specs.declared.finding.Finding.{Finding}
 use Rattle.plain.specs.Sheet as plain
-use Rattle.sheet.specs.States.{shown}
 use Rattle.series.specs.Calls.{road_of, stands}
+use Rattle.series.specs.Runs.{opened_in}
 use Rattle.series.specs.declared.mark.Sheet.{Sheet}
 use Rattle.commands.specs.declared.name.Name.{Name}
 use Rattle.commands.specs.declared.name.Name.TheVariants as names
@@ -43,7 +43,7 @@ pub record Same (before after : Desk) : Type 0 where
 
 -- The sheet of a road just opened.
 abbrev pub LaysOut : Road → Option Sheet → Type 0
-LaysOut road (Some s) = (memory : List RowRecord) → shown (stands s memory) ≡ plain.opened road
+LaysOut road (Some s) = (memory : List RowRecord) → stands s memory ≡ opened_in road memory
 LaysOut road None = ⊥
 
 -- Opening a road lays a new sheet on the desk, under the compulsory limits; a road that the library refuses changes nothing.

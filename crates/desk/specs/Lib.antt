@@ -1,3 +1,4 @@
 pub mod Desk
 pub mod Printing
+pub mod Reporting
 pub mod Stretch

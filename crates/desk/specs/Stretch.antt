@@ -1,9 +1,9 @@
 -- A stretch of calls on the open sheet.
-use Rattle.std.specs.Prelude.{◌≡◌, ℕ, List, [], map, length, unwrap_or, Option, Some, None}
+use Rattle.std.specs.Prelude.{◌≡◌, ℕ, ◌≤◌, List, [], map, length, unwrap_or, Option, Some, None}
 use Rattle.std.specs.Borrow.{Bor}
 use Rattle.plain.specs.Sheet.{add, take_out, set_lengths, check, fit, parameter, reopen}
 use Rattle.plain.specs.Sheet as plain
-use Rattle.series.specs.Calls.{stands}
+use Rattle.series.specs.Calls.{count_of, stands}
 use Rattle.series.specs.Runs.{Turn, CarriedOut}
 use Rattle.series.specs.declared.mark.Sheet.{Sheet}
 use Rattle.choice.specs.declared.in_force.LimitsInForce.{LimitsInForce}
@@ -35,10 +35,11 @@ turn_of limits room space o = record { room = room; call = λ count. asks limits
 abbrev pub turns : Desk → List Order → List Turn
 turns d orders = map (turn_of d.limits (length (rows_in d)) (length (findings_in d))) orders
 
--- The orders are carried out on the open sheet, one after the other, under the limits in force, and printed; some were barred. Without a sheet nothing changes.
+-- The orders are carried out on the open sheet, whose rows the memory holds, one after the other, under the limits in force, and printed; some were
+-- barred. Without a sheet nothing changes.
 abbrev pub CarriesOut : {W : Type 0} (contents : W → Option (List ℕ)) → List Order → Option Sheet → Desk → W → Desk → W → (barred : ℕ) → Type 0
 CarriesOut contents orders None before out after out' barred = Same before after × (out' ≡ out) × (barred ≡ 0)
 CarriesOut contents orders (Some s) before out after out' barred =
-    (s' : Sheet) × (after.sheet ≡ Some s') × (after.limits ≡ before.limits)
-    × CarriedOut (Prints contents) (turns before orders) (record { orders = orders; barred = 0; out = out }) (record { orders = []; barred = barred; out = out' })
+    (s' : Sheet) × (after.sheet ≡ Some s') × (after.limits ≡ before.limits) × (count_of s ≤ length (rows_in before))
+    × CarriedOut (Prints contents before.limits) (turns before orders) (record { orders = orders; barred = 0; out = out }) (record { orders = []; barred = barred; out = out' })
     (findings_in before) (findings_in after) (stands s (rows_in before)) (stands s' (rows_in after))

@@ -7,3 +7,4 @@ mod listing;
 mod opening;
 pub mod order;
 mod printer;
+mod reporting;

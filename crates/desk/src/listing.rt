@@ -1,23 +1,29 @@
 // A sheet with its memory, line by line.
-ghost use Rattle.std.specs.Prelude.{◌≡◌, List, ℕ, OnOk, take, length};
+ghost use Rattle.std.specs.Prelude.{◌≡◌, List, ℕ, ◌++◌, OnOk, take, length};
 ghost use Rattle.std.specs.Io.KnownBytes.{Appends};
 ghost use Rattle.rows.specs.Reading.{rows_of};
-ghost use Rattle.series.specs.Calls.{count_of};
-ghost use Rattle.desk.specs.Printing.{SetOutList};
+ghost use Rattle.series.specs.Calls.{mark_of, road_of, count_of};
+ghost use Rattle.desk.specs.Printing.{rows_text, SetOutList};
+ghost use Rattle.desk.specs.Reporting.{has_mark, SheetShown, Below};
+ghost use Rattle.plain.specs.Sheet.{fitted};
+ghost use Rattle.wording.specs.Lines.{explained_text};
+ghost use Rattle.report.specs.Explaining.{LinesOf};
 
 use crate::desk::Desk;
+use crate::reporting::is_fitted;
 use answers::failure::Failure;
 use answers::set_out::SetOut;
 use answers::shown_row::ShownRow;
 use choice::in_force::LimitsInForce;
 use commands::name::Name;
-use findings::finding::{Finding, Rule};
+use findings::finding::Finding;
+use report::writing::Report;
+use road::refusal::Refusal;
+use road::road::Road;
 use rows::record::RowRecord;
-use rows::row::Row;
 use series::mark::Sheet;
 use std::io;
 use std::io::Write;
-use wording::explained::Explained;
 
 // A sheet, the memory that it lies in, and the limits in force for it.
 #[derive(Clone, Copy)]
@@ -39,7 +45,9 @@ impl<'a> View<'a> {
     }
 
     // The rows, a line each.
-    fn write_rows<W: Write>(&self, out: &mut W) -> io::Result<()> {
+    fn write_rows<W: Write>(&self, out: &mut W) -> io::Result<()>
+        ensures { OnOk result (Appends (W.contents out.old) (W.contents out.new) (rows_text 0 (rows_of self.now.rows.now (count_of self.now.sheet.now)))) }
+    {
         for (place, record) in self.records().iter().enumerate() {
             let shown = ShownRow {
                 place,
@@ -60,39 +68,59 @@ impl<'a> View<'a> {
         Ok(())
     }
 
-    // The least length that is admitted for the clothoids of a row, if it is a curve and there is one.
-    fn least_at(&self, row: usize) -> Option<u32> {
-        match self.records().get(row)?.read() {
-            Row::Straight(_) => None,
-            Row::Curve(curve) => curve.least_length(&self.sheet.road(), self.limits),
+    // Findings in plain words, a line each.
+    pub(crate) fn write_findings<W: Write>(
+        &self,
+        out: &mut W,
+        findings: &[Finding],
+    ) -> io::Result<()>
+        ensures { OnOk result ((lines : List ℕ) × LinesOf (road_of self.now.sheet.now) self.now.limits.now (take (count_of self.now.sheet.now) self.now.rows.now) explained_text findings.now lines × Appends (W.contents out.old) (W.contents out.new) lines) }
+    {
+        let road = self.sheet.road();
+        self.report(&road).write_explained(out, findings)
+    }
+
+    // What is reported of the sheet, whose road is handed in, since it has no place of its own in a sheet.
+    fn report<'b>(&'b self, road: &'b Road) -> Report<'b>
+        ensures { (result.road.now ≡ road.now) × (result.fitted ≡ has_mark fitted (mark_of self.now.sheet.now)) × (result.rows.now ≡ take (count_of self.now.sheet.now) self.now.rows.now) × (result.limits.now ≡ self.now.limits.now) }
+    {
+        Report {
+            road,
+            fitted: is_fitted(self.sheet),
+            rows: self.records(),
+            limits: self.limits,
         }
     }
 
-    // The first findings of their memory, as many as are said, in plain words, a line each.
-    pub(crate) fn write_findings<W: Write>(&self, out: &mut W, count: usize) -> io::Result<()> {
+    // The sheet as a table, and what a check found, or why there is no check.
+    pub(crate) fn write_report<W: Write>(
+        &self,
+        out: &mut W,
+        found: Result<usize, Refusal>,
+    ) -> io::Result<()>
+        ensures { OnOk result ((table : List ℕ) × (below : List ℕ) × SheetShown self.now.sheet.now self.now.rows.now self.now.limits.now table × Below (road_of self.now.sheet.now) self.now.limits.now (take (count_of self.now.sheet.now) self.now.rows.now) self.now.findings.now found below × Appends (W.contents out.old) (W.contents out.new) (table ++ below)) }
+    {
         let road = self.sheet.road();
-        for finding in self.findings.iter().take(count) {
-            let least = match finding.rule {
-                Rule::AdmittedLength | Rule::LongestLength => self.least_at(finding.row),
-                _ => None,
-            };
-            let explained = Explained {
-                finding: *finding,
-                road: &road,
-                rows: self.records(),
-                least,
-            };
-            writeln!(out, "{explained}")?;
+        let report = self.report(&road);
+        report.write_table(out)?;
+        match found {
+            Ok(count) => {
+                let count = count.min(self.findings.len());
+                report.write_findings(out, &self.findings[..count])
+            }
+            Err(refusal) => writeln!(out, "{}", Failure::Refused(refusal)),
         }
-        Ok(())
     }
 }
 
 impl Desk {
-    ghost use Rattle.desk.specs.Desk.{IsOpen};
+    ghost use Rattle.desk.specs.Desk.{IsOpen, rows_in};
+    ghost use Rattle.desk.specs.Printing.{Lists};
 
     // Writes the rows of the open sheet.
-    pub fn write_rows<W: Write>(&self, out: &mut W) -> io::Result<()> {
+    pub fn write_rows<W: Write>(&self, out: &mut W) -> io::Result<()>
+        ensures { OnOk result (Lists W.contents self.now.sheet (rows_in self.now) out.old out.new) }
+    {
         match &self.sheet {
             Some(sheet) => View {
                 sheet,

@@ -12,7 +12,6 @@ use road::road::Road;
 use rows::range::MOST_ROWS;
 use rows::record::RowRecord;
 use series::mark::Sheet;
-use sheet::draft::Draft;
 use std::alloc::{AllocError, Global};
 
 // The most findings of a row.
@@ -48,7 +47,7 @@ impl Desk {
         ensures { Opens design self.old self.new result }
     {
         let road = Road::open(design)?;
-        self.sheet = Some(Sheet::Draft(Draft::open(road)));
+        self.sheet = Some(Sheet::open(road));
         self.limits = LimitsInForce::Compulsory;
         Ok(Answer::Opened(road))
     }

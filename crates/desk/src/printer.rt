@@ -88,14 +88,14 @@ fn write_answer<W: Write>(
     view: &View,
     answer: Outcome,
 ) -> io::Result<()>
-    ensures { OnOk result (Says W.contents order.now (told answer view.now.findings.now) (shown (stands view.now.sheet.now view.now.rows.now)) out.old out.new) }
+    ensures { OnOk result (Says W.contents view.now.limits.now order.now (told answer view.now.findings.now) (shown (stands view.now.sheet.now view.now.rows.now)) out.old out.new) }
 {
     match answer {
         Outcome::Done => write_done(out, order.command, view),
         Outcome::Found(count) => {
-            let count = count.min(view.findings.len());
-            view.write_findings(out, count)?;
-            writeln!(out, "{}", Answer::Found { count })
+            let found = &view.findings[..count.min(view.findings.len())];
+            view.write_findings(out, found)?;
+            writeln!(out, "{}", Answer::Found { count: found.len() })
         }
         Outcome::Parameter(parameter) => match order.command {
             SheetCommand::Parameter { row, at } => {
@@ -123,9 +123,8 @@ impl<W: Write> Printer<'_, W> {
         findings: &mut [Finding],
         requests: &[Request<&LimitsInForce>],
     ) -> Sheet
-        requires { 4_000 ≤ length rows.old }
         ensures same_out { self.new.out.ghost_name ≡ self.old.out.ghost_name }
-        ensures series { self.old.barred + length requests.now ≤ 2 ^ 64 - 1 → IsOk self.new.written → CarriedOut (Prints W.contents) (map (turn meant (length rows.old) (length findings.old)) requests.now) (page self.old) (page self.new) findings.old findings.new (stands sheet rows.old) (stands result rows.new) }
+        ensures series { self.old.barred + length requests.now ≤ 2 ^ 64 - 1 → IsOk self.new.written → CarriedOut (Prints W.contents self.old.limits.now) (map (turn meant (length rows.old) (length findings.old)) requests.now) (page self.old) (page self.new) findings.old findings.new (stands sheet rows.old) (stands result rows.new) }
     {
         sheet.carry_out(rows, findings, requests, self)
     }

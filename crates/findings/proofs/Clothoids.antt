@@ -7,7 +7,6 @@ use Rattle.limits.specs.Least.{LeastOf}
 use Rattle.road.specs.declared.road.Road.{Road}
 use Rattle.rows.proofs.Leasts.{is_least_in}
 use Rattle.rows.specs.declared.row.Curve.{Curve}
-use Rattle.rows.specs.declared.row.Row.{Row}
 use Rattle.rows.specs.declared.row.Row.TheVariants as row
 use Rattle.rows.specs.Curves.{place_of, calls_below_lem, Calling}
 use Rattle.findings.specs.declared.walk.Clothoids.TheVariants.{Called}
@@ -23,9 +22,9 @@ decides_calls road c =
     (Decides-ltb c.radius (calls_below_lem road.group))
 
 -- the least length of a curve that calls, as it was answered
-pub called_is : (road : Road) (admission : Admission) (r : Row) (c : Curve) (b : Bool) (least : Option ℕ) → UpToLongest (admission (place_of road c))
-    → r ≡ row.Curve c → Decides b (Calling road c) → b ≡ true → LeastOf (In (admission (place_of road c))) least
-    → Called least ≡ clothoids_of road admission r
-called_is road admission r c b least lawful is decides taken answer =
+pub called_is : (road : Road) (admission : Admission) (c : Curve) (b : Bool) (least : Option ℕ) → UpToLongest (admission (place_of road c))
+    → Decides b (Calling road c) → b ≡ true → LeastOf (In (admission (place_of road c))) least
+    → Called least ≡ clothoids_of road admission (row.Curve c)
+called_is road admission c b least lawful decides taken answer =
     let e : calls road c ≡ true = same_from_decides (calls road c) b (decides_calls road c) decides ∙ taken in
-    rw (is, e) (ap Called (is_least_in (admission (place_of road c)) lawful least answer))
+    rw e (ap Called (is_least_in (admission (place_of road c)) lawful least answer))

@@ -23,8 +23,8 @@ use Rattle.findings.specs.declared.walk.Clothoids.TheVariants.{Uncalled, Called}
 use Rattle.findings.specs.declared.walk.Stretch.{Stretch}
 use Rattle.findings.specs.Around.{total, EndWith, BeginWith, RunBegins, RunGoesOn}
 use Rattle.findings.specs.Rules.{Admission, Symmetric, Harmonious, Follows, shortest_run_lem, longest_run_lem, BrokenByCurve, BrokenByStraight, Broken}
-use Rattle.findings.specs.Walk.{nothing, walked, reached, begins, calls, symmetric, harmonious, discordant, disharmonious, strays, conventional, short_between, context_of, curve_breaks_lem, straight_breaks_lem, breaks}
-use Rattle.findings.proofs.Around.{behind_has, behind_is, just_before, run_begins, begins_has, ahead_has, ahead_is, run_has, run_is}
+use Rattle.findings.specs.Walk.{nothing, reached, begins, calls, symmetric, harmonious, discordant, disharmonious, strays, conventional, short_between, context_of, curve_breaks_lem, straight_breaks_lem, breaks}
+use Rattle.findings.proofs.Around.{walked, behind_has, behind_is, just_before, run_begins, begins_has, ahead_has, ahead_is, run_has, run_is}
 use Rattle.findings.proofs.Clothoids.{decides_leb, decides_calls}
 use Rattle.findings.proofs.Followed.{decides_follows}
 use Rattle.findings.proofs.Lengths.{decides_unadmitted, decides_too_long, decides_uncalled}

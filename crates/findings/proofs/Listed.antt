@@ -13,8 +13,9 @@ use Rattle.findings.specs.declared.kind.Kind.TheVariants.{UnadmittedEntry, Unadm
 use Rattle.findings.specs.declared.walk.Context.{Context}
 use Rattle.findings.specs.declared.walk.Stretch.{Stretch}
 use Rattle.findings.specs.Rules.{Admission}
-use Rattle.findings.specs.Findings.{rule_number, side_number, rule_of_lem, side_of, finding_of_lem, Sooner, Among, Ordered, FindingsOf}
-use Rattle.findings.specs.Walk.{nothing, past, walked, context_of, breaks, kinds, given, gathered, listed}
+use Rattle.findings.specs.Findings.{rule_number, side_number, rule_of, side_of, finding_of, Sooner, Among, Ordered, FindingsOf}
+use Rattle.findings.specs.Walk.{nothing, past, context_of, breaks, kinds, clothoid_kinds, other_kinds, given, gathered, listed}
+use Rattle.findings.proofs.Around.{walked}
 use Rattle.findings.proofs.Decide.{decides}
 
 among_left : (f : Finding) (xs ys : List Finding) → Among f xs → Among f (xs ++ ys)
@@ -38,7 +39,7 @@ ordered_append (x ∷ xs) ys o p h =
 
 -- The kinds are in the order of rule and side.
 rank : Kind → ℕ
-rank k = 3 * rule_number (rule_of_lem k) + side_number (side_of k)
+rank k = 3 * rule_number (rule_of k) + side_number (side_of k)
 
 abbrev Above : ℕ → List Kind → Type 0
 Above n [] = Unit {0}
@@ -49,19 +50,19 @@ side_small Whole = lit< tt
 side_small Entry = lit< tt
 side_small Exit = lit< tt
 
-rank_sooner : (place : ℕ) (k j : Kind) → rank k < rank j → Sooner (finding_of_lem place k) (finding_of_lem place j)
+rank_sooner : (place : ℕ) (k j : Kind) → rank k < rank j → Sooner (finding_of place k) (finding_of place j)
 unfolding rank
 rank_sooner place k j h =
     let a = side_small (side_of k) in
     let b = side_small (side_of j) in
-    elim (cases_order (rule_number (rule_of_lem k)) (rule_number (rule_of_lem j))) [
+    elim (cases_order (rule_number (rule_of k)) (rule_number (rule_of j))) [
       | inl e ↦ inr (refl, inr (e, omega arith))
       | inr (inl less) ↦ inr (refl, inl less)
       | inr (inr more) ↦ absurd (let z : ⊥ = omega arith in z)
     ]
 
 kinds_above : Above 0 kinds
-unfolding kinds rank
+unfolding kinds clothoid_kinds other_kinds rank
 kinds_above = (lit< tt, (lit< tt, (lit< tt, (lit< tt, (lit< tt, (lit< tt, (lit< tt, (lit< tt, (lit< tt, (lit< tt, (lit< tt, (lit< tt, (lit< tt, (lit< tt, (lit< tt, (lit< tt, tt))))))))))))))))
 
 Listing : Kind → List Kind → Type 0
@@ -69,7 +70,7 @@ Listing k [] = ⊥
 Listing k (j ∷ ks) = (k ≡ j) ⊎ Listing k ks
 
 all_kinds : (k : Kind) → Listing k kinds
-unfolding kinds Listing
+unfolding kinds clothoid_kinds other_kinds Listing
 all_kinds UnadmittedEntry = inl refl
 all_kinds UnadmittedExit = inr (inl refl)
 all_kinds LongEntry = inr (inr (inl refl))
@@ -103,32 +104,32 @@ one_ordered false f = tt
 
 module _ (road : Road) where
   among_gathered : (place : ℕ) (at : Context) (n : ℕ) (ks : List Kind) (f : Finding) → Above n ks → Among f (gathered road place at ks)
-      → (k : Kind) × (f ≡ finding_of_lem place k) × (breaks road k at ≡ true) × (n < rank k)
+      → (k : Kind) × (f ≡ finding_of place k) × (breaks road k at ≡ true) × (n < rank k)
   among_gathered place at n [] f a m = absurd m
   among_gathered place at n (k ∷ ks) f a m =
-      elim (among_parts f (given (breaks road k at) (finding_of_lem place k)) (gathered road place at ks) m) [
-        | inl i ↦ let (e, b) = among_given (breaks road k at) f (finding_of_lem place k) i in (k, e, b, a.0)
+      elim (among_parts f (given (breaks road k at) (finding_of place k)) (gathered road place at ks) m) [
+        | inl i ↦ let (e, b) = among_given (breaks road k at) f (finding_of place k) i in (k, e, b, a.0)
         | inr i ↦ let (j, e, b, l) = among_gathered place at (rank k) ks f a.1 i in let lt = a.0 in (j, e, b, omega arith)
       ]
 
   gathered_among : (place : ℕ) (at : Context) (k : Kind) (ks : List Kind) → Listing k ks → breaks road k at ≡ true
-      → Among (finding_of_lem place k) (gathered road place at ks)
+      → Among (finding_of place k) (gathered road place at ks)
   unfolding Listing
   gathered_among place at k [] m e = absurd m
   gathered_among place at k (j ∷ ks) (inl i) e =
-      let h : Among (finding_of_lem place k) (given (breaks road j at) (finding_of_lem place j)) =
-      rw (← i) (given_among (breaks road k at) (finding_of_lem place k) e) in
-      among_left (finding_of_lem place k) (given (breaks road j at) (finding_of_lem place j)) (gathered road place at ks) h
+      let h : Among (finding_of place k) (given (breaks road j at) (finding_of place j)) =
+      rw (← i) (given_among (breaks road k at) (finding_of place k) e) in
+      among_left (finding_of place k) (given (breaks road j at) (finding_of place j)) (gathered road place at ks) h
   gathered_among place at k (j ∷ ks) (inr m) e =
-      among_right (finding_of_lem place k) (given (breaks road j at) (finding_of_lem place j)) (gathered road place at ks) (gathered_among place at k ks m e)
+      among_right (finding_of place k) (given (breaks road j at) (finding_of place j)) (gathered road place at ks) (gathered_among place at k ks m e)
 
   gathered_ordered : (place : ℕ) (at : Context) (n : ℕ) (ks : List Kind) → Above n ks → Ordered (gathered road place at ks)
   gathered_ordered place at n [] a = tt
   gathered_ordered place at n (k ∷ ks) a =
-      ordered_append (given (breaks road k at) (finding_of_lem place k)) (gathered road place at ks) (one_ordered (breaks road k at) (finding_of_lem place k))
+      ordered_append (given (breaks road k at) (finding_of place k)) (gathered road place at ks) (one_ordered (breaks road k at) (finding_of place k))
       (gathered_ordered place at (rank k) ks a.1)
       (λ f g i j.
-      let (e, b) = among_given (breaks road k at) f (finding_of_lem place k) i in
+      let (e, b) = among_given (breaks road k at) f (finding_of place k) i in
       let (m, q, t, l) = among_gathered place at (rank k) ks g a.1 j in
       rw (e, q) (rank_sooner place k m l))
 
@@ -140,7 +141,7 @@ module _ (road : Road) (admission : Admission) where
     after : List Row
     reads : rows ≡ before ++ this ∷ after
     kind : Kind
-    is : f ≡ finding_of_lem (place + length before) kind
+    is : f ≡ finding_of (place + length before) kind
     broken : breaks road kind (context_of road admission (walked behind before) this after) ≡ true
 
   among_listed : (place : ℕ) (behind : Stretch) (rows : List Row) (f : Finding) → Among f (listed road admission place behind rows) → Seen place behind rows f
@@ -150,7 +151,7 @@ module _ (road : Road) (admission : Admission) where
         | inl i ↦
             let (k, e, b, l) = among_gathered road place (context_of road admission behind r rows) 0 kinds f kinds_above i in
             let z : place ≡ place + 0 = omega arith in
-            record { before = []; this = r; after = rows; reads = refl; kind = k; is = e ∙ ap (λ (n : ℕ). finding_of_lem n k) z; broken = b }
+            record { before = []; this = r; after = rows; reads = refl; kind = k; is = e ∙ ap (λ (n : ℕ). finding_of n k) z; broken = b }
         | inr i ↦
             let s = among_listed (place + 1) (past behind r) rows f i in
             let z : place + 1 + length s.before ≡ place + suc (length s.before) = omega arith in
@@ -160,23 +161,23 @@ module _ (road : Road) (admission : Admission) where
               after = s.after;
               reads = ap (λ (xs : List Row). r ∷ xs) s.reads;
               kind = s.kind;
-              is = s.is ∙ ap (λ (n : ℕ). finding_of_lem n s.kind) z;
+              is = s.is ∙ ap (λ (n : ℕ). finding_of n s.kind) z;
               broken = s.broken;
             }
       ]
 
   listed_among : (place : ℕ) (behind : Stretch) (before : List Row) (this : Row) (after : List Row) (k : Kind)
       → breaks road k (context_of road admission (walked behind before) this after) ≡ true
-      → Among (finding_of_lem (place + length before) k) (listed road admission place behind (before ++ this ∷ after))
+      → Among (finding_of (place + length before) k) (listed road admission place behind (before ++ this ∷ after))
   listed_among place behind [] this after k e =
       let z : place ≡ place + 0 = omega arith in
-      subst (λ (n : ℕ). Among (finding_of_lem n k) (listed road admission place behind (this ∷ after))) z
-      (among_left (finding_of_lem place k) (gathered road place (context_of road admission behind this after) kinds) (listed road admission (place + 1) (past behind this) after)
+      subst (λ (n : ℕ). Among (finding_of n k) (listed road admission place behind (this ∷ after))) z
+      (among_left (finding_of place k) (gathered road place (context_of road admission behind this after) kinds) (listed road admission (place + 1) (past behind this) after)
       (gathered_among road place (context_of road admission behind this after) k kinds (all_kinds k) e))
   listed_among place behind (r ∷ before) this after k e =
       let z : place + 1 + length before ≡ place + suc (length before) = omega arith in
-      subst (λ (n : ℕ). Among (finding_of_lem n k) (listed road admission place behind (r ∷ before ++ this ∷ after))) z
-      (among_right (finding_of_lem (place + 1 + length before) k) (gathered road place (context_of road admission behind r (before ++ this ∷ after)) kinds)
+      subst (λ (n : ℕ). Among (finding_of n k) (listed road admission place behind (r ∷ before ++ this ∷ after))) z
+      (among_right (finding_of (place + 1 + length before) k) (gathered road place (context_of road admission behind r (before ++ this ∷ after)) kinds)
       (listed road admission (place + 1) (past behind r) (before ++ this ∷ after)) (listed_among (place + 1) (past behind r) before this after k e))
 
   listed_ordered : (place : ℕ) (behind : Stretch) (rows : List Row) → Ordered (listed road admission place behind rows)
@@ -204,7 +205,7 @@ module _ (road : Road) (admission : Admission) where
               after = s.after;
               reads = s.reads;
               kind = s.kind;
-              is = s.is ∙ ap (λ (n : ℕ). finding_of_lem n s.kind) z;
+              is = s.is ∙ ap (λ (n : ℕ). finding_of n s.kind) z;
               broken = (decides road admission lawful s.kind s.before s.this s.after).0 s.broken;
             };
         complete = λ f p.

@@ -1,6 +1,6 @@
 -- One step more of the loops over the kinds and the rows.
 use Rattle.std.proofs.Common.{◌≡◌, ℕ, ◌+◌, ◌*◌, ◌≤◌, Bool, true, false, cond, List, [], ◌∷◌, ◌++◌, map, length, drop, refl, arith}
-use Rattle.std.proofs.lemmas.List.{at_drop_all, length-append, length-map}
+use Rattle.std.proofs.lemmas.List.{at_drop_all, append_assoc, length-append, length-map}
 use Rattle.std.specs.List.{sum_by}
 use Rattle.std.proofs.lemmas.List.Sums.{sum_by-cons}
 use Rattle.rows.specs.declared.row.Row.{Row}
@@ -11,8 +11,8 @@ use Rattle.findings.specs.declared.walk.Stretch.{Stretch}
 use Rattle.findings.specs.declared.walk.Walk.{Walk}
 use Rattle.findings.specs.Alignments.{left}
 use Rattle.findings.specs.Rules.{Admission}
-use Rattle.findings.specs.Walk.{past, context_of, breaks, kinds, given, gathered, gathered_from, counted, contexts, listed}
-use Rattle.findings.specs.Findings.{finding_of_lem}
+use Rattle.findings.specs.Walk.{past, context_of, breaks, kinds, clothoid_kinds, other_kinds, given, gathered, gathered_from, counted, contexts, listed}
+use Rattle.findings.specs.Findings.{finding_of}
 use Rattle.findings.specs.declared.finding.Finding.{Finding}
 use Rattle.findings.specs.declared.kind.Kind.{Kind}
 
@@ -29,9 +29,9 @@ module _ (road : Road) where
   counted_is : (place : ℕ) (at : Context) (ks : List Kind) → counted road at ks ≡ length (gathered road place at ks)
   counted_is place at [] = refl
   counted_is place at (k ∷ ks) =
-      let a : length (given (breaks road k at) (finding_of_lem place k)) ≡ cond {A = ℕ} (breaks road k at) 1 0 = given_length (breaks road k at) (finding_of_lem place k) in
+      let a : length (given (breaks road k at) (finding_of place k)) ≡ cond {A = ℕ} (breaks road k at) 1 0 = given_length (breaks road k at) (finding_of place k) in
       let b = counted_is place at ks in
-      let e = length-append (given (breaks road k at) (finding_of_lem place k)) (gathered road place at ks) in
+      let e = length-append (given (breaks road k at) (finding_of place k)) (gathered road place at ks) in
       let m : counted road at (k ∷ ks) ≡ cond {A = ℕ} (breaks road k at) 1 0 + counted road at ks = sum_by-cons (λ j. cond (breaks road j at) 1 0) k ks in
       omega arith
 
@@ -50,6 +50,11 @@ module _ (road : Road) where
       → gathered_from road now ats ≡ gathered road place at kinds ++ gathered_from road next later
   rows_more now next place at ats later e p n = rw (e, p, n) refl
 
+  pub gathered_both : (place : ℕ) (at : Context) (ks js : List Kind) → gathered road place at (ks ++ js) ≡ gathered road place at ks ++ gathered road place at js
+  gathered_both place at [] js = refl
+  gathered_both place at (k ∷ ks) js =
+      cc (gathered_both place at ks js, append_assoc (given (breaks road k at) (finding_of place k)) (gathered road place at ks) (gathered road place at js))
+
   pub gather_all : (place : ℕ) (at : Context) (ks : List Kind) (k : ℕ) → length ks ≤ k → gathered road place at (drop k ks) ≡ []
   gather_all place at ks k h = at_drop_all (gathered road place at) ks k h
 
@@ -57,13 +62,13 @@ module _ (road : Road) where
   gathered_few : (place : ℕ) (at : Context) (ks : List Kind) → length (gathered road place at ks) ≤ length ks
   gathered_few place at [] = omega arith
   gathered_few place at (k ∷ ks) =
-      let a = given_few (breaks road k at) (finding_of_lem place k) in
+      let a = given_few (breaks road k at) (finding_of place k) in
       let b = gathered_few place at ks in
-      let e = length-append (given (breaks road k at) (finding_of_lem place k)) (gathered road place at ks) in
+      let e = length-append (given (breaks road k at) (finding_of place k)) (gathered road place at ks) in
       omega arith
 
   sixteen : (place : ℕ) (at : Context) → length (gathered road place at kinds) ≤ 16
-  unfolding kinds
+  unfolding kinds clothoid_kinds other_kinds
   sixteen place at = gathered_few place at kinds
 
 module _ (road : Road) (admission : Admission) where

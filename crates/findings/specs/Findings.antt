@@ -15,7 +15,7 @@ use Rattle.findings.specs.declared.kind.Kind.{Kind}
 use Rattle.findings.specs.declared.kind.Kind.TheVariants.{UnadmittedEntry, UnadmittedExit, LongEntry, LongExit, UncalledEntry, UncalledExit, Unequal, Disharmony, NoArc, TightRadius, NextRadius, ReturnRadius, SmallTurn, ShortRun, LongRun, SlightTurn}
 use Rattle.findings.specs.Rules.{Admission, Broken}
 
--- A finding by its numbers: its row, rule and side, and whether it is a breach or advice.
+-- The number of a rule.
 abbrev pub rule_number : Rule → ℕ
 rule_number rule.AdmittedLength = 1
 rule_number rule.LongestLength = 2
@@ -30,26 +30,28 @@ rule_number rule.ShortestRun = 10
 rule_number rule.LongestRun = 11
 rule_number rule.LeastTurn = 12
 
+-- The number of a side.
 abbrev pub side_number : Side → ℕ
 side_number Whole = 0
 side_number Entry = 1
 side_number Exit = 2
 
--- Rules 10 to 12 advise; a breach is of one of the others.
-abbrev pub weight_of_lem : Rule → Weight
-weight_of_lem rule.AdmittedLength = Breach
-weight_of_lem rule.LongestLength = Breach
-weight_of_lem rule.NoClothoids = Breach
-weight_of_lem rule.Symmetry = Breach
-weight_of_lem rule.Harmony = Breach
-weight_of_lem rule.ArcLeft = Breach
-weight_of_lem rule.LeastRadius = Breach
-weight_of_lem rule.ConsecutiveRadii = Breach
-weight_of_lem rule.SmallTurn = Breach
-weight_of_lem rule.ShortestRun = Advice
-weight_of_lem rule.LongestRun = Advice
-weight_of_lem rule.LeastTurn = Advice
+-- The weight of a rule: rules 10 to 12 advise; a breach is of one of the others.
+abbrev pub weight_of : Rule → Weight
+weight_of rule.AdmittedLength = Breach
+weight_of rule.LongestLength = Breach
+weight_of rule.NoClothoids = Breach
+weight_of rule.Symmetry = Breach
+weight_of rule.Harmony = Breach
+weight_of rule.ArcLeft = Breach
+weight_of rule.LeastRadius = Breach
+weight_of rule.ConsecutiveRadii = Breach
+weight_of rule.SmallTurn = Breach
+weight_of rule.ShortestRun = Advice
+weight_of rule.LongestRun = Advice
+weight_of rule.LeastTurn = Advice
 
+-- A finding by its numbers: its row, rule and side, and whether it is a breach or advice.
 pub record Numbers : Type 0 where
   pub row : ℕ
   pub rule : ℕ
@@ -59,25 +61,26 @@ pub record Numbers : Type 0 where
 abbrev pub numbers : Finding → Numbers
 numbers f = record { row = f.row; rule = rule_number f.rule; side = side_number f.side; weight = f.weight }
 
--- The rule of a kind, and the side that it names.
-abbrev pub rule_of_lem : Kind → Rule
-rule_of_lem UnadmittedEntry = rule.AdmittedLength
-rule_of_lem UnadmittedExit = rule.AdmittedLength
-rule_of_lem LongEntry = rule.LongestLength
-rule_of_lem LongExit = rule.LongestLength
-rule_of_lem UncalledEntry = rule.NoClothoids
-rule_of_lem UncalledExit = rule.NoClothoids
-rule_of_lem Unequal = rule.Symmetry
-rule_of_lem Disharmony = rule.Harmony
-rule_of_lem NoArc = rule.ArcLeft
-rule_of_lem TightRadius = rule.LeastRadius
-rule_of_lem NextRadius = rule.ConsecutiveRadii
-rule_of_lem ReturnRadius = rule.ConsecutiveRadii
-rule_of_lem SmallTurn = rule.SmallTurn
-rule_of_lem ShortRun = rule.ShortestRun
-rule_of_lem LongRun = rule.LongestRun
-rule_of_lem SlightTurn = rule.LeastTurn
+-- The rule of a kind.
+abbrev pub rule_of : Kind → Rule
+rule_of UnadmittedEntry = rule.AdmittedLength
+rule_of UnadmittedExit = rule.AdmittedLength
+rule_of LongEntry = rule.LongestLength
+rule_of LongExit = rule.LongestLength
+rule_of UncalledEntry = rule.NoClothoids
+rule_of UncalledExit = rule.NoClothoids
+rule_of Unequal = rule.Symmetry
+rule_of Disharmony = rule.Harmony
+rule_of NoArc = rule.ArcLeft
+rule_of TightRadius = rule.LeastRadius
+rule_of NextRadius = rule.ConsecutiveRadii
+rule_of ReturnRadius = rule.ConsecutiveRadii
+rule_of SmallTurn = rule.SmallTurn
+rule_of ShortRun = rule.ShortestRun
+rule_of LongRun = rule.LongestRun
+rule_of SlightTurn = rule.LeastTurn
 
+-- The side that a kind names.
 abbrev pub side_of : Kind → Side
 side_of UnadmittedEntry = Entry
 side_of UnadmittedExit = Exit
@@ -96,9 +99,9 @@ side_of ShortRun = Whole
 side_of LongRun = Whole
 side_of SlightTurn = Whole
 
--- The finding of a kind at a row.
-abbrev pub finding_of_lem : ℕ → Kind → Finding
-finding_of_lem place kind = record { row = place; rule = rule_of_lem kind; side = side_of kind; weight = weight_of_lem (rule_of_lem kind) }
+-- The finding of a kind at row n.
+abbrev pub finding_of : ℕ → Kind → Finding
+finding_of n kind = record { row = n; rule = rule_of kind; side = side_of kind; weight = weight_of (rule_of kind) }
 
 -- The rules give this finding: somewhere the rows read so that the kind's rule is broken, and the finding names that row.
 pub record Found (road : Road) (admission : Admission) (rows : List Row) (f : Finding) : Type 0 where
@@ -107,7 +110,7 @@ pub record Found (road : Road) (admission : Admission) (rows : List Row) (f : Fi
   pub after : List Row
   pub reads : rows ≡ before ++ this ∷ after
   pub kind : Kind
-  pub is : f ≡ finding_of_lem (length before) kind
+  pub is : f ≡ finding_of (length before) kind
   pub broken : Broken road admission kind before this after
 
 -- The order of findings: by row, then rule, then side.
@@ -116,9 +119,11 @@ Earlier f g =
     (f.row < g.row)
     ⊎ ((f.row ≡ g.row) × ((f.rule < g.rule) ⊎ ((f.rule ≡ g.rule) × (f.side < g.side))))
 
+-- f comes before g in that order.
 abbrev pub Sooner : Finding → Finding → Type 0
 Sooner f g = Earlier (numbers f) (numbers g)
 
+-- f is one of the findings.
 abbrev pub Among : Finding → List Finding → Type 0
 Among f [] = ⊥
 Among f (g ∷ gs) = (f ≡ g) ⊎ Among f gs
@@ -138,13 +143,14 @@ pub record FindingsOf (road : Road) (admission : Admission) (rows : List Row) (f
 abbrev pub OneList : Type 0
 OneList = (road : Road) (admission : Admission) (rows : List Row) (fs gs : List Finding) → FindingsOf road admission rows fs → FindingsOf road admission rows gs → fs ≡ gs
 
--- What a check answers, and what the memory then holds: the findings and, past them, what it held; or all that it held.
+-- A check that is not refused: n is the number of the findings, and the memory has them at its front and, past them, what it held.
 pub record Written (road : Road) (admission : Admission) (rows : List Row) (old new : List Finding) (n : ℕ) : Type 0 where
   pub list : List Finding
   pub findings : FindingsOf road admission rows list
   pub number : n ≡ length list
   pub memory : new ≡ list ++ drop n old
 
+-- A check refuses more than 4,000 rows, and findings that outnumber the slots of the memory; then the memory stays.
 abbrev pub Checked : Road → Admission → List Row → (old new : List Finding) → Result ℕ TooMany → Type 0
 Checked road admission rows old new (Ok n) = (length rows ≤ 4_000) × Written road admission rows old new n
 Checked road admission rows old new (Err Rows) = (4_000 < length rows) × (new ≡ old)

@@ -83,7 +83,7 @@ module _ (road : Road) (admission : Admission) where
   abbrev pub TooLong : Curve → ℕ → Type 0
   TooLong c length = (least : ℕ) × Smallest (Admitted c) least × (2 * length ≤ 3 * least → ⊥)
 
-  -- What is found at a curve.
+  -- What is found at a curve, by the rows before it and after it. The two kinds of the rules on runs are never found there.
   abbrev pub BrokenByCurve : Kind → List Row → Curve → List Row → Type 0
   -- 1: a calling curve has an admitted length
   BrokenByCurve UnadmittedEntry before c after = Calling road c × (Admitted c c.entry → ⊥)
@@ -115,7 +115,7 @@ module _ (road : Road) (admission : Admission) where
   -- 12: the turn is at least 2 gon
   BrokenByCurve SlightTurn before c after = c.turn < 20_000
 
-  -- What is found at a straight.
+  -- What is found at a straight: the two kinds of the rules on runs alone.
   abbrev pub BrokenByStraight : Kind → List Row → Straight → List Row → Type 0
   BrokenByStraight UnadmittedEntry before s after = ⊥
   BrokenByStraight UnadmittedExit before s after = ⊥
@@ -139,6 +139,7 @@ module _ (road : Road) (admission : Admission) where
       (ss : List Straight) × RunBegins before × RunGoesOn after ss × (longest_run_lem road.speed < s.length + total ss)
   BrokenByStraight SlightTurn before s after = ⊥
 
+  -- The row breaks the rule of a kind.
   abbrev pub Broken : Kind → List Row → Row → List Row → Type 0
   Broken kind before (row.Curve c) after = BrokenByCurve kind before c after
   Broken kind before (row.Straight s) after = BrokenByStraight kind before s after

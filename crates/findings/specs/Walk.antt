@@ -20,19 +20,16 @@ use Rattle.findings.specs.declared.walk.Clothoids.TheVariants.{Uncalled, Called}
 use Rattle.findings.specs.declared.walk.Context.{Context}
 use Rattle.findings.specs.declared.walk.Stretch.{Stretch}
 use Rattle.findings.specs.Rules.{Admission, limited_length_lem, radius_after_run_lem, shortest_run_lem, longest_run_lem}
-use Rattle.findings.specs.Findings.{finding_of_lem}
+use Rattle.findings.specs.Findings.{finding_of}
 
--- What lies behind a place.
+-- What lies behind the first row.
 abbrev pub nothing : Stretch
 nothing = record { curve = None; run = 0 }
 
+-- What lies behind, one row on.
 abbrev pub past : Stretch → Row → Stretch
 past behind (row.Straight s) = record { curve = behind.curve; run = behind.run + s.length }
 past behind (row.Curve c) = record { curve = Some c; run = 0 }
-
-abbrev pub walked : Stretch → List Row → Stretch
-walked behind [] = behind
-walked behind (r ∷ rows) = walked (past behind r) rows
 
 -- What lies ahead of a place, after straights of that length.
 abbrev pub reached : ℕ → List Row → Stretch
@@ -58,6 +55,7 @@ abbrev pub clothoids_of : Road → Admission → Row → Clothoids
 clothoids_of road admission (row.Straight s) = Uncalled
 clothoids_of road admission (row.Curve c) = cond (calls road c) (Called (least_in (admission (place_of road c)))) Uncalled
 
+-- A row with what lies behind it and ahead of it.
 abbrev pub context_of : Road → Admission → Stretch → Row → List Row → Context
 context_of road admission behind r after =
     record { row = r; clothoids = clothoids_of road admission r; behind = behind; ahead = cond (looks behind r) (reached 0 after) nothing }
@@ -171,9 +169,9 @@ row_breaks road kind at (row.Curve c) = curve_breaks_lem road kind at c
 abbrev pub breaks : Road → Kind → Context → Bool
 breaks road kind at = row_breaks road kind at at.row
 
--- The kinds, in the order of rule and side.
-unfoldable pub kinds : List Kind
-kinds =
+-- The kinds by the rules of clothoids and by the others, in the order of rule and side.
+unfoldable pub clothoid_kinds : List Kind
+clothoid_kinds =
     UnadmittedEntry
     ∷ UnadmittedExit
     ∷ LongEntry
@@ -183,7 +181,11 @@ kinds =
     ∷ Unequal
     ∷ Disharmony
     ∷ NoArc
-    ∷ TightRadius
+    ∷ []
+
+unfoldable pub other_kinds : List Kind
+other_kinds =
+    TightRadius
     ∷ NextRadius
     ∷ ReturnRadius
     ∷ SmallTurn
@@ -192,6 +194,11 @@ kinds =
     ∷ SlightTurn
     ∷ []
 
+-- All kinds, in this order.
+unfoldable pub kinds : List Kind
+kinds = clothoid_kinds ++ other_kinds
+
+-- A finding, where it is given.
 abbrev pub given : Bool → Finding → List Finding
 given true f = f ∷ []
 given false f = []
@@ -199,7 +206,7 @@ given false f = []
 -- The findings of one row, of some kinds.
 abbrev pub gathered : Road → ℕ → Context → List Kind → List Finding
 gathered road place at [] = []
-gathered road place at (k ∷ ks) = given (breaks road k at) (finding_of_lem place k) ++ gathered road place at ks
+gathered road place at (k ∷ ks) = given (breaks road k at) (finding_of place k) ++ gathered road place at ks
 
 -- How many those are.
 abbrev pub counted : Road → Context → List Kind → ℕ

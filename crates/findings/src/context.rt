@@ -1,13 +1,14 @@
 // What lies behind a row and ahead of it, and what its clothoids are held to.
 ghost use Rattle.std.specs.Prelude.{◌≡◌, ◌+◌, ◌≤◌, map, length, if◌then◌else◌};
 ghost use Rattle.rows.specs.Reading.{row_of};
-ghost use Rattle.findings.specs.Walk.{nothing, past, reached, looks, clothoids_of};
+ghost use Rattle.findings.specs.Walk.{nothing, past, reached, begins, clothoids_of, context_of};
+ghost use Rattle.rows.specs.declared.row.Row.TheVariants as row;
 
-use crate::walk::{Clothoids, Stretch};
+use crate::walk::{Clothoids, Context, Stretch};
 use limits::limit::Limit;
 use road::road::Road;
 use rows::record::RowRecord;
-use rows::row::Row;
+use rows::row::{Curve, Row};
 
 impl Stretch {
     // What lies behind, one row on.
@@ -29,6 +30,7 @@ impl Stretch {
     }
 
     // What lies ahead, where these rows come.
+    #[inline(never)]
     fn ahead(rows: &[RowRecord]) -> Stretch
         requires { length rows.now ≤ 4_000 }
         ensures { result ≡ reached 0 (map row_of rows.now) }
@@ -48,33 +50,58 @@ impl Stretch {
         Stretch { curve: None, run }
     }
 
-    // What lies ahead of a row. Only a curve and the first straight of a run look ahead, so a run is read twice at most.
-    pub(crate) fn ahead_of(row: Row, behind: Stretch, rows: &[RowRecord]) -> Stretch
+    // What lies ahead of a straight. Only the first straight of a run looks ahead, and the curve before it, so a run is read twice at most.
+    fn ahead_of_straight(behind: Stretch, rows: &[RowRecord]) -> Stretch
         requires { length rows.now ≤ 4_000 }
-        ensures { result ≡ (if looks behind row then reached 0 (map row_of rows.now) else nothing) }
+        ensures { result ≡ (if begins behind then reached 0 (map row_of rows.now) else nothing) }
     {
-        match row {
-            Row::Straight(_) if !behind.begins_run() => Stretch::NOTHING,
-            _ => Stretch::ahead(rows),
+        if behind.begins_run() {
+            Stretch::ahead(rows)
+        } else {
+            Stretch::NOTHING
         }
     }
 }
 
 impl Clothoids {
-    // What the clothoids of a row are held to. The limit is asked only for a curve that calls for clothoids.
-    // No guard on the arm: the check does not cover one that takes a struct with a ghost field.
-    pub(crate) fn of<L: Limit>(row: Row, road: &Road, limit: &L) -> Clothoids
-        ensures { result ≡ clothoids_of road.now (L.Limit.admitted limit.now) row }
+    // What the clothoids of a curve are held to. The limit is asked only where it calls for clothoids.
+    fn of<L: Limit>(curve: Curve, road: &Road, limit: &L) -> Clothoids
+        ensures { result ≡ clothoids_of road.now (L.Limit.admitted limit.now) (row.Curve curve) }
+    {
+        if curve.calls_for_clothoids(road) {
+            Clothoids::Called(curve.least_length(road, limit))
+        } else {
+            Clothoids::Uncalled
+        }
+    }
+}
+
+impl Context {
+    // The context of a row. Straights and curves part here, and nothing of both is done after, so that a straight within a run goes by in few instructions.
+    #[inline(always)]
+    pub(crate) fn of<L: Limit>(
+        row: Row,
+        road: &Road,
+        limit: &L,
+        behind: Stretch,
+        after: &[RowRecord],
+    ) -> Context
+        requires { length after.now ≤ 4_000 }
+        ensures { result ≡ context_of road.now (L.Limit.admitted limit.now) behind row (map row_of after.now) }
     {
         match row {
-            Row::Straight(_) => Clothoids::Uncalled,
-            Row::Curve(curve) => {
-                if curve.calls_for_clothoids(road) {
-                    Clothoids::Called(curve.least_length(road, limit))
-                } else {
-                    Clothoids::Uncalled
-                }
-            }
+            Row::Straight(_) => Context {
+                row,
+                clothoids: Clothoids::Uncalled,
+                behind,
+                ahead: Stretch::ahead_of_straight(behind, after),
+            },
+            Row::Curve(curve) => Context {
+                row,
+                clothoids: Clothoids::of(curve, road, limit),
+                behind,
+                ahead: Stretch::ahead(after),
+            },
         }
     }
 }

@@ -125,6 +125,7 @@ impl Stretch {
 // The road is handed to each method: a context is of one row, and the road is of all.
 impl Context {
     // One line for each kind of a curve, so that none is left out.
+    #[inline(always)]
     fn curve_breaks(&self, road: &Road, kind: Kind, curve: Curve) -> bool
         ensures { result ≡ curve_breaks_lem road.now kind self.now curve }
     {
@@ -148,6 +149,7 @@ impl Context {
     }
 
     // The run is summed in a wider type, where each sum fits.
+    #[inline(always)]
     fn straight_breaks(&self, road: &Road, kind: Kind, straight: Straight) -> bool
         ensures { result ≡ straight_breaks_lem road.now kind self.now straight }
     {
@@ -163,6 +165,7 @@ impl Context {
     }
 
     // Whether the row breaks the rule of a kind.
+    #[inline(always)]
     pub(crate) fn breaks(&self, road: &Road, kind: Kind) -> bool
         ensures { result ≡ breaks road.now kind self.now }
     {

@@ -6,7 +6,8 @@ use road::road::Road;
 use rows::record::RowRecord;
 use rows::row::{Curve, Row};
 
-// What lies on one side of a row: the nearest curve there, and the length of the straights up to it, or up to the sheet's end, mm.
+// What lies on one side of a row: the nearest curve there, and the length of the run up to it, or up to the sheet's end, mm.
+// A run is neighbouring straights, and its length is their sum; 0 where there are none.
 #[derive(Clone, Copy)]
 pub struct Stretch {
     pub curve: Option<Curve>,
@@ -58,17 +59,13 @@ impl<'a, L: Limit> Iterator for Walk<'a, L> {
 
     ghost remaining = { item_count (left L.Limit.admitted) };
 
+    #[inline(always)]
     fn next(&mut self) -> Option<Context> {
         let (record, after) = self.rows.split_first()?;
         let row = record.read();
         let behind = self.behind;
         self.rows = after;
         self.behind = behind.past(row);
-        Some(Context {
-            row,
-            clothoids: Clothoids::of(row, self.road, self.limit),
-            behind,
-            ahead: Stretch::ahead_of(row, behind, after),
-        })
+        Some(Context::of(row, self.road, self.limit, behind, after))
     }
 }

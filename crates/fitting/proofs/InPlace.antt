@@ -1,7 +1,9 @@
 -- The passes over records, which hold the lengths of their rows.
-use Rattle.std.proofs.Common.{◌≡◌, ℕ, zero, suc, ◌+◌, ◌<◌, ◌≤◌, max, Bool, true, false, cond, List, [], ◌∷◌, ◌++◌, length, map, take, drop, get_or, set, Some, None, Option, refl, sym, ap, ◌∙◌, arith}
-use Rattle.std.proofs.lemmas.Bool.{cond_both}
-use Rattle.std.proofs.lemmas.List.{map-set, length-map, get_or-map}
+use Rattle.std.proofs.Common.{◌≡◌, ℕ, zero, suc, ◌+◌, ◌<◌, ◌≤◌, max, Bool, true, false, nat_lt, cond, List, [], ◌∷◌, ◌++◌, length, map, take, drop, get_or, slice_index, set, inl, inr, Some, None, Option, Bor, refl, sym, ap, ◌∙◌, arith}
+use Rattle.std.proofs.lemmas.Bool.{cases_lt, cond_both, ltb-true}
+use Rattle.std.proofs.lemmas.List.{map-set, length-map, length-set, get_or-map, get_or-set_other}
+use Rattle.std.proofs.lemmas.Grind.{get_or-set_at, get_or_default_zero}
+use Rattle.std.specs.Option.{is_some, option_copied, IfSome}
 use Rattle.std.proofs.Math.Seq.{map-set_same}
 use Rattle.road.specs.declared.road.Road.{Road}
 use Rattle.rows.specs.declared.record.RowRecord.{RowRecord}
@@ -17,13 +19,13 @@ use Rattle.fitting.specs.declared.demand.Demand.{Demand}
 use Rattle.fitting.specs.declared.demand.Demand.TheVariants.{Free, Called}
 use Rattle.fitting.specs.declared.demand.Lengths.{Lengths}
 use Rattle.fitting.specs.Demands.{bounds, demand, lengths}
-use Rattle.fitting.specs.Passes.{beside_lem, low_lem, first, asks, raised, step, decide, started, body_by, body, only_of, demands, all_lengths}
+use Rattle.fitting.specs.Passes.{beside_lem, low_lem, first, asks, least_asked, Kept, raised, step, decide, started, body_by, body, only_of, demands, all_lengths}
 use Rattle.plain.specs.Lengths.{AlikeRow, Alike}
 use Rattle.fitting.proofs.SubjectRows.{alike_demands}
 use Rattle.fitting.proofs.Lower.{beside_le}
 use Rattle.fitting.specs.declared.reach.Reach.{Reach}
 use Rattle.fitting.specs.declared.reach.Reach.TheVariants as reach
-use Rattle.fitting.proofs.Loops.{decide_stops, decide_goes, started_more, Pushed, pushed_more}
+use Rattle.fitting.proofs.Loops.{decide_stops, decide_goes, started_more, started_all, Pushed, pushed_more}
 
 -- a least length is at most the longest
 first_in_within : (test : ℕ → Bool) (from many top : ℕ) → from + many ≤ top + 1 → 1 ≤ top → low_lem (first_in test from many) ≤ top
@@ -46,9 +48,32 @@ either_within false x y p q = q
 pub beside_short : (x : ℕ) → x ≤ 2_000_000 → beside_lem x ≤ 2_000_000
 beside_short x h = omega (arith, beside_le x)
 
-pub asks_short : (d : Demand) (l : Lengths) → Short l → asks d l ≤ 2_000_000
-asks_short Free l h = omega arith
-asks_short (Called b) l h = beside_short l.exit h.1
+-- a row that asks no clothoids asks nothing of the next entry either
+asks_first : (a : ℕ) (d : Demand) → beside_lem (first a d).exit ≡ asks d (first a d)
+asks_first a Free = refl
+asks_first a (Called b) = refl
+
+-- what is kept, one row more
+pub kept_more : (row least : ℕ) (ds : List Demand) (leasts now : List ℕ) → now ≡ set leasts row least → least ≡ least_asked (get_or ds row Free)
+    → ((i : ℕ) → i < row → i < length leasts → slice_index leasts i ≡ least_asked (get_or ds i Free)) → (i : ℕ) → i < row + 1 → i < length now
+    → slice_index now i ≡ least_asked (get_or ds i Free)
+kept_more row least ds leasts now written is before i h within =
+    let long : length now ≡ length leasts = ap length written ∙ length-set leasts row least in
+    ap (λ (ms : List ℕ). slice_index ms i) written ∙ elim (cases_lt i row) [
+      | inl less ↦ get_or-set_other leasts row i least 0 (λ e. absurd (omega (arith, e, less))) ∙ before i less (omega (arith, long, within))
+      | inr more ↦
+          let same : i ≡ row = omega arith in
+          get_or-set_at leasts row i least 0 same (omega (arith, long, within, same)) ∙ is ∙ ap (λ (k : ℕ). least_asked (get_or ds k Free)) (sym same)
+    ]
+
+-- a slot that is found is one of the list
+slot_at : (i least : ℕ) (leasts : List ℕ) (slot : Option (Bor ℕ)) → is_some slot ≡ nat_lt i (length leasts)
+    → IfSome slot (λ m. m.now ≡ get_or leasts i m.now) → option_copied slot ≡ Some least → (i < length leasts) × (least ≡ slice_index leasts i)
+slot_at i least leasts None there value is = cc
+slot_at i least leasts (Some m) there value is =
+    let within : i < length leasts = ltb-true i (length leasts) (sym there) in
+    let same : m.now ≡ least = cc in
+    (within, sym same ∙ value ∙ get_or_default_zero leasts i m.now within)
 
 lengths_count : (xs : List RowRecord) → length (all_lengths xs) ≡ length xs
 lengths_count xs = length-map (map row_of xs) lengths ∙ length-map xs row_of
@@ -109,6 +134,16 @@ module _ (road : Road) (admission : Admission) where
       let r = get_or-map row_of xs i d (row_of d) h in
       cc
 
+  -- the least length of a record's row, where it was kept
+  pub kept_at : (i least : ℕ) (slot : Option (Bor ℕ)) (found : Option ℕ) (r : Row) (x d : RowRecord) (xs ys : List RowRecord) (leasts : List ℕ)
+      → i < length xs → x ≡ get_or xs i d → r ≡ row_of x → map body xs ≡ map body ys → Kept (demands road admission ys) leasts
+      → is_some slot ≡ nat_lt i (length leasts) → IfSome slot (λ m. m.now ≡ get_or leasts i m.now) → found ≡ option_copied slot → found ≡ Some least
+      → least ≡ least_asked (demand road admission r)
+  kept_at i least slot found r x d xs ys leasts h is read s kept there value copied some =
+      let count = demands_count xs ys s in
+      let got = slot_at i least leasts slot there value (sym copied ∙ some) in
+      got.1 ∙ kept i (omega arith) got.0 ∙ ap least_asked (demand_at i x d xs ys h is s ∙ ap (demand road admission) (sym read))
+
   -- deciding, at one record
   module _ (i : ℕ) (s : Reach) (r : Row) (q : Demand) (o : Option Reach) (x d : RowRecord) (xs : List RowRecord) (within : i < length xs) (at : x ≡ get_or xs i d)
       (read : r ≡ row_of x) (asked : q ≡ demand road admission r) (stepped : o ≡ step s q)
@@ -118,6 +153,9 @@ module _ (road : Road) (admission : Admission) where
 
     inside : i < length (demands road admission xs)
     inside = let count = demands_count xs xs refl in omega arith
+
+    pub least_here : (least : ℕ) → least ≡ least_asked q → least ≡ least_asked (get_or (demands road admission xs) i Free)
+    least_here least is = is ∙ ap least_asked (asked ∙ ap (demand road admission) read ∙ sym (demand_at i x d xs xs within at refl))
 
     pub decide_none : o ≡ None → Some i ≡ decide 0 reach.Free (demands road admission xs)
     decide_none is = sym (decide_stops i s (demands road admission xs) Free inside (here ∙ is)) ∙ left
@@ -163,6 +201,10 @@ module _ (road : Road) (admission : Admission) where
   pub raised_short : (a : ℕ) (r : Row) (l : Lengths) → l ≡ raised a (demand road admission r) (lengths r) → a ≤ 2_000_000 → Short l
   raised_short a r l e h = rw e (raised_row a r h)
 
+  -- what a row asks of the next entry
+  pub asks_is : (a a' : ℕ) (r : Row) (l : Lengths) → l ≡ first a (demand road admission r) → a' ≡ beside_lem l.exit → a' ≡ asks (demand road admission r) l
+  asks_is a a' r l e f = f ∙ ap (λ m. beside_lem m.exit) e ∙ asks_first a (demand road admission r) ∙ ap (asks (demand road admission r)) (sym e)
+
   -- forward, one record more
   pub start_more : (i a a' : ℕ) (l : Lengths) (r : Row) (q : Demand) (x y d : RowRecord) (xs ys : List RowRecord) (all : List Lengths) → i < length xs
       → x ≡ get_or xs i d → r ≡ row_of x → q ≡ demand road admission r → l ≡ first a q → a' ≡ asks q l → lengths (row_of y) ≡ only_of (row_of x) l
@@ -179,6 +221,14 @@ module _ (road : Road) (admission : Admission) where
       rw set_is
       (started_more i a a' l (demands road admission ys) (all_lengths xs) all Free (omega arith) (omega arith) (e ∙ ap (first a) at)
       (f ∙ ap (λ t. asks t l) at) g)
+
+  -- forward, at the end
+  pub started_end : (i a : ℕ) (xs ys : List RowRecord) (all : List Lengths) → length xs ≤ i → map body xs ≡ map body ys
+      → take i (all_lengths xs) ++ started a (drop i (demands road admission ys)) ≡ all → all_lengths xs ≡ all
+  started_end i a xs ys all h s g =
+      let count = lengths_count xs in
+      let count' = demands_count xs ys s in
+      started_all i a (demands road admission ys) (all_lengths xs) all (omega arith) (omega arith) g
 
   -- backward, one record more
   pub push_more : (i j a a' : ℕ) (l : Lengths) (r : Row) (x y d : RowRecord) (xs ys : List RowRecord) → i ≡ j + 1 → j < length xs → x ≡ get_or xs j d

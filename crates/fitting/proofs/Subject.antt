@@ -19,7 +19,7 @@ use Rattle.findings.specs.declared.finding.Finding.{Finding}
 use Rattle.findings.specs.declared.kind.Kind.{Kind}
 use Rattle.findings.specs.declared.kind.Kind.TheVariants.{UnadmittedEntry, UnadmittedExit, LongEntry, LongExit, UncalledEntry, UncalledExit, Unequal, Disharmony, NoArc, ShortRun, LongRun}
 use Rattle.findings.specs.Around.{EndWith}
-use Rattle.findings.specs.Findings.{rule_number, rule_of_lem, finding_of_lem}
+use Rattle.findings.specs.Findings.{rule_number, rule_of, finding_of}
 use Rattle.findings.specs.Rules.{Admission, Symmetric, LeavesArc, BrokenByCurve, Broken}
 use Rattle.findings.specs.Walk.{calls, symmetric}
 use Rattle.findings.proofs.Clothoids.{decides_calls}
@@ -94,21 +94,21 @@ last_curve xs ys b c e = let same = (same_from_push xs ys (row.Curve b) (row.Cur
 module _ (road : Road) (admission : Admission) where
   -- No rule up to 6 is broken at a row.
   abbrev pub Sound : List Row → Row → List Row → Type 0
-  Sound before this after = (k : Kind) → rule_number (rule_of_lem k) ≤ 6 → Broken road admission k before this after → ⊥
+  Sound before this after = (k : Kind) → rule_number (rule_of k) ≤ 6 → Broken road admission k before this after → ⊥
 
   pub keeps_sound : (rows : List Row) → Keeps road admission rows → (before : List Row) (this : Row) (after : List Row)
       → rows ≡ before ++ this ∷ after → Sound before this after
   keeps_sound rows keeps before this after reads k low broken =
-      let high : 6 < rule_number (rule_of_lem k) =
-      keeps (finding_of_lem (length before) k)
+      let high : 6 < rule_number (rule_of k) =
+      keeps (finding_of (length before) k)
       (record { before = before; this = this; after = after; reads = reads; kind = k; is = refl; broken = broken }) in
       omega arith
 
   pub sound_keeps : (rows : List Row) → ((before : List Row) (this : Row) (after : List Row) → rows ≡ before ++ this ∷ after → Sound before this after)
       → Keeps road admission rows
   sound_keeps rows sound f found =
-      let same : rule_number f.rule ≡ rule_number (rule_of_lem found.kind) = ap (λ (g : Finding). rule_number g.rule) found.is in
-      elim (cases_lt 6 (rule_number (rule_of_lem found.kind))) [
+      let same : rule_number f.rule ≡ rule_number (rule_of found.kind) = ap (λ (g : Finding). rule_number g.rule) found.is in
+      elim (cases_lt 6 (rule_number (rule_of found.kind))) [
         | inl high ↦ omega arith
         | inr low ↦ absurd (sound found.before found.this found.after found.reads found.kind low found.broken)
       ]

@@ -138,7 +138,7 @@ same_admission : (first second : Admission) → AdmitAlike first second → seco
 same_admission first second alike = λ i place length. sym (alike place length) i
 
 module _ (road : Road) (admission : Admission) (rows others : List Row) (alike : Alike rows others) where
-  least_from : (fitted : List Row) → LeastLengths road admission others fitted → LeastLengths road admission rows fitted
+  pub least_from : (fitted : List Row) → LeastLengths road admission others fitted → LeastLengths road admission rows fitted
   least_from fitted p =
       record {
         alike = alike_through rows others fitted alike p.alike;

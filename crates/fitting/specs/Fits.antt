@@ -1,5 +1,6 @@
 -- What fitting answers, and what the records then hold.
-use Rattle.std.specs.Prelude.{◌≡◌, ℕ, List, [], ◌∷◌, map, Ok, Err, Result}
+use Rattle.std.specs.Prelude.{◌≡◌, ℕ, List, map, Ok, Err, Result}
+use Rattle.std.specs.List.{AllZip}
 use Rattle.road.specs.declared.road.Road.{Road}
 use Rattle.rows.specs.declared.record.RowRecord.{RowRecord}
 use Rattle.rows.specs.declared.row.Row.TheVariants as row
@@ -9,11 +10,8 @@ use Rattle.findings.specs.Rules.{Admission}
 use Rattle.plain.specs.Lengths.{LeastLengths, NoLengths, FirstWithout}
 
 -- Only curves are written: where a record reads as a straight, it stays.
-abbrev pub OnlyCurves : List RowRecord → List RowRecord → Type 0
-OnlyCurves [] [] = Unit {0}
-OnlyCurves [] (t ∷ ts) = ⊥
-OnlyCurves (r ∷ rs) [] = ⊥
-OnlyCurves (r ∷ rs) (t ∷ ts) = ((s : Straight) → row_of r ≡ row.Straight s → t ≡ r) × OnlyCurves rs ts
+abbrev pub OnlyCurves : (before after : List RowRecord) → Type 0
+OnlyCurves = AllZip (λ r t. (s : Straight) → row_of r ≡ row.Straight s → t ≡ r)
 
 -- The curves get the least lengths that keep the rules; or no lengths keep them, the answer names the first row without any, and nothing changes.
 abbrev pub Fits : Road → Admission → List RowRecord → List RowRecord → Result (Unit {0}) ℕ → Type 0

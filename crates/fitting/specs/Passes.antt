@@ -1,5 +1,5 @@
 -- The passes of fitting, as functions of what the rows ask. Only private contracts cite this; proofs/ tie it to the rules.
-use Rattle.std.specs.Prelude.{ℕ, ◌+◌, ◌-◌, ◌*◌, ◌/◌, max, min, Bool, true, false, cond, ◌&&◌, nat_le, List, [], ◌∷◌, map, Some, None, Option}
+use Rattle.std.specs.Prelude.{◌≡◌, ℕ, ◌+◌, ◌-◌, ◌*◌, ◌/◌, ◌<◌, max, min, Bool, true, false, cond, ◌&&◌, nat_le, List, [], ◌∷◌, length, get_or, slice_index, map, Some, None, Option}
 use Rattle.rows.specs.declared.record.RowRecord.{RowRecord}
 use Rattle.rows.specs.declared.row.Row.{Row}
 use Rattle.rows.specs.declared.row.Row.TheVariants as row
@@ -69,6 +69,15 @@ first a (Called b) =
 abbrev pub asks : Demand → Lengths → ℕ
 asks Free l = 0
 asks (Called b) l = beside_lem l.exit
+
+-- The least length that a row asks of its clothoids by itself: 0 of a row with none.
+abbrev pub least_asked : Demand → ℕ
+least_asked Free = 0
+least_asked (Called b) = low_lem b.entry
+
+-- Some numbers are what the rows ask so, one by one, as far as there are both.
+abbrev pub Kept : List Demand → List ℕ → Type 0
+Kept ds leasts = (i : ℕ) → i < length ds → i < length leasts → slice_index leasts i ≡ least_asked (get_or ds i Free)
 
 -- Backward: the lengths of a row where the exit is at least a.
 abbrev pub raised : ℕ → Demand → Lengths → Lengths

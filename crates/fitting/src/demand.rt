@@ -1,12 +1,12 @@
 // What the rows of a sheet ask of their clothoids.
-ghost use Rattle.std.specs.Prelude.{◌≡◌, ◌≤◌};
+ghost use Rattle.std.specs.Prelude.{◌≡◌, ℕ, ◌≤◌, Some};
 ghost use Rattle.findings.specs.Rules.{Admission};
 ghost use Rattle.findings.specs.Walk.{symmetric};
 ghost use Rattle.fitting.specs.Demands.{room, bounds, demand, lengths};
-ghost use Rattle.fitting.specs.Passes.{first, asks, raised, only_of, body};
+ghost use Rattle.fitting.specs.Passes.{first, least_asked, raised, only_of, body};
 ghost use Rattle.rows.specs.Reading.{row_of};
 
-use crate::reach::{beside, low};
+use crate::reach::low;
 use limits::limit::Limit;
 use road::road::Road;
 use rows::record::RowRecord;
@@ -25,6 +25,7 @@ pub(crate) struct Bounds {
     pub room: u32,
 }
 
+// A row's demand: what it asks of its clothoids.
 #[derive(Clone, Copy)]
 pub(crate) enum Demand {
     // a straight, or a curve that calls for no clothoids: both lengths are 0
@@ -83,34 +84,48 @@ impl Demand {
         }
     }
 
-    // The least lengths that the rows up to this one ask, where its entry is at least that long.
-    pub(crate) fn first(self, least_entry: u32) -> Lengths
-        ensures { result ≡ first least_entry self }
-    {
-        let Demand::Called(bounds) = self else {
-            return Lengths::NONE;
-        };
-        let entry = low(bounds.entry).max(least_entry);
-        let exit = low(bounds.exit);
-        Lengths {
-            entry,
-            exit: if bounds.even { entry.max(exit) } else { exit },
-        }
-    }
-
-    // The least entry that a row of those lengths asks of the row after it.
-    pub(crate) fn asks(self, lengths: Lengths) -> u32
-        ensures { result ≡ asks self lengths }
+    // The least length that the row asks of its clothoids by itself.
+    pub(crate) fn least(self) -> u32
+        ensures { result ≡ least_asked self }
     {
         match self {
             Demand::Free => 0,
-            Demand::Called(_) => beside(lengths.exit),
+            Demand::Called(bounds) => low(bounds.entry),
         }
     }
 }
 
 impl Lengths {
     pub(crate) const NONE: Lengths = Lengths { entry: 0, exit: 0 };
+
+    // The least lengths that the rows up to this one ask, where its entry is at least that long.
+    // What it asks by itself may be kept; the limit is asked again where it is not.
+    pub(crate) fn first<L: Limit>(
+        road: &Road,
+        limit: &L,
+        row: Row,
+        kept: Option<u32>,
+        least_entry: u32,
+    ) -> Lengths
+        requires { (least : ℕ) → kept ≡ Some least → least ≡ least_asked (demand road.now (L.Limit.admitted limit.now) row) }
+        ensures { result ≡ first least_entry (demand road.now (L.Limit.admitted limit.now) row) }
+    {
+        let Row::Curve(curve) = row else {
+            return Lengths::NONE;
+        };
+        if !curve.calls_for_clothoids(road) {
+            return Lengths::NONE;
+        }
+        let least = match kept {
+            Some(least) => least,
+            None => Demand::of(road, limit, row).least(),
+        };
+        let entry = least.max(least_entry);
+        Lengths {
+            entry,
+            exit: if is_even(road.group) { entry } else { least },
+        }
+    }
 
     // The lengths of the row where its exit is at least that long.
     pub(crate) fn raised(road: &Road, row: Row, least_exit: u32) -> Lengths
@@ -137,20 +152,20 @@ impl Lengths {
     }
 }
 
-// The record with other lengths, where it is that of a curve.
-pub(crate) fn with_lengths(stored: RowRecord, new: Lengths) -> RowRecord
+// Gives the record other lengths, where it is that of a curve; that of a straight is left, and not even written.
+pub(crate) fn set_lengths(stored: &mut RowRecord, new: Lengths)
     requires { (new.entry ≤ 2_000_000) × (new.exit ≤ 2_000_000) }
-    ensures same { body result ≡ body stored }
-    ensures read { lengths (row_of result) ≡ only_of (row_of stored) new }
+    ensures same { body stored.new ≡ body stored.old }
+    ensures read { lengths (row_of stored.new) ≡ only_of (row_of stored.old) new }
 {
     let Row::Curve(curve) = stored.read() else {
-        return stored;
+        return;
     };
-    RowRecord::from(Row::Curve(Curve {
+    *stored = RowRecord::from(Row::Curve(Curve {
         sense: curve.sense,
         radius: curve.radius,
         turn: curve.turn,
         entry: new.entry,
         exit: new.exit,
-    }))
+    }));
 }

@@ -10,16 +10,19 @@ mod reach;
 use crate::passes::{first_without, push_back, start};
 use limits::limit::Limit;
 use road::road::Road;
+use rows::range::MOST_ROWS;
 use rows::record::RowRecord;
 
 // Gives the curves the least lengths that keep the clothoid rules, or says which is the first row that has none.
 pub fn fit<L: Limit>(road: &Road, limit: &L, records: &mut [RowRecord]) -> Result<(), usize>
     ensures { Fits road.now (L.Limit.admitted limit.now) records.old records.new result }
 {
-    if let Some(row) = first_without(road, limit, records) {
+    // Kept between the passes, so that the limit is asked once a row, and twice only past the most rows of a sheet.
+    let mut leasts = [0; MOST_ROWS];
+    if let Some(row) = first_without(road, limit, records, &mut leasts) {
         return Err(row);
     }
-    start(road, limit, records);
+    start(road, limit, records, &leasts);
     push_back(road, records);
     Ok(())
 }

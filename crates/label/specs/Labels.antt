@@ -18,7 +18,7 @@ ParameterOf radius (Some length) None = ⊥
 ParameterOf radius None (Some parameter) = ⊥
 ParameterOf radius None None = Unit {0}
 
--- The superelevation, the least length under each limit and under the compulsory pile, and the parameter there, of one place of the curve.
+-- The superelevation of a place, the least length there under each limit and under the compulsory pile, and the parameter at the last.
 pub record LabelAt (place : Place) (label : Label) : Type 0 where
   pub banked : label.superelevation ≡ place.superelevation
   pub by_comfort : LeastOf (In (comfort place)) label.comfort
@@ -29,6 +29,7 @@ pub record LabelAt (place : Place) (label : Label) : Type 0 where
   pub by_compulsory : LeastOf (In (compulsory place)) label.least
   pub parameter : ParameterOf place.radius label.least label.parameter
 
+-- The label of the place of a radius and a turn that are both in range; of others, the first ground that applies is the refusal, and it names no row.
 abbrev pub Labelled : Road → (radius turn : ℕ) → Result Label Refusal → Type 0
 Labelled road radius turn (Ok label) = Clear (place_grounds radius turn) × ((place : Place) × PlaceOf road radius turn place × LabelAt place label)
 Labelled road radius turn (Err refusal) = Refused (place_grounds radius turn) 0 refusal

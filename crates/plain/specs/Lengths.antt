@@ -1,5 +1,6 @@
--- Lists of lengths: the same rows with other clothoid lengths, which of them keep the six clothoid rules, and the least of those.
-use Rattle.std.specs.Prelude.{◌≡◌, ℕ, ◌+◌, ◌<◌, ◌≤◌, List, [], ◌∷◌, length, take}
+-- A list of lengths gives every curve an entry and an exit: the same rows with other lengths. Which lists keep the six clothoid rules, and the least of those.
+use Rattle.std.specs.Prelude.{◌≡◌, ℕ, ◌+◌, ◌<◌, ◌≤◌, List, length, take}
+use Rattle.std.specs.List.{AllZip}
 use Rattle.road.specs.declared.road.Road.{Road}
 use Rattle.rows.specs.declared.row.Row.{Row}
 use Rattle.rows.specs.declared.row.Row.TheVariants as row
@@ -16,10 +17,7 @@ AlikeRow (row.Curve c) (row.Curve d) = (d.sense ≡ c.sense) × (d.radius ≡ c.
 
 -- The same rows, with some list of lengths.
 abbrev pub Alike : List Row → List Row → Type 0
-Alike [] [] = Unit {0}
-Alike [] (t ∷ ts) = ⊥
-Alike (r ∷ rs) [] = ⊥
-Alike (r ∷ rs) (t ∷ ts) = AlikeRow r t × Alike rs ts
+Alike = AllZip AlikeRow
 
 -- No entry and no exit is longer than the other rows'.
 abbrev pub NoLongerRow : Row → Row → Type 0
@@ -29,17 +27,14 @@ NoLongerRow (row.Curve c) (row.Straight t) = ⊥
 NoLongerRow (row.Curve c) (row.Curve d) = (c.entry ≤ d.entry) × (c.exit ≤ d.exit)
 
 abbrev pub NoLonger : List Row → List Row → Type 0
-NoLonger [] [] = Unit {0}
-NoLonger [] (t ∷ ts) = ⊥
-NoLonger (r ∷ rs) [] = ⊥
-NoLonger (r ∷ rs) (t ∷ ts) = NoLongerRow r t × NoLonger rs ts
+NoLonger = AllZip NoLongerRow
 
 module _ (road : Road) (admission : Admission) where
   -- The rows keep rules 1 to 6: every finding is of a later rule.
   abbrev pub Keeps : List Row → Type 0
   Keeps rows = (f : Finding) → Found road admission rows f → 6 < rule_number f.rule
 
-  -- The rows with the least list of lengths that keeps the rules: every other that keeps them is at least as long at each entry and exit.
+  -- The least list: it keeps the rules, and every list that keeps them is at least as long at each entry and at each exit.
   pub record LeastLengths (rows fitted : List Row) : Type 0 where
     pub alike : Alike rows fitted
     pub keeps : Keeps fitted

@@ -20,12 +20,12 @@ use Rattle.plain.specs.declared.NewRow.{NewRow}
 use Rattle.plain.specs.declared.NewRow.TheVariants as new
 use Rattle.plain.specs.Lengths.{LeastLengths, NoLengths, FirstWithout}
 
--- A draft may be edited; a fitted sheet has the least lengths, and may not.
+-- A sheet's mark says which calls it has: a draft may be edited and fitted; a fitted sheet, as a fit left it, may be asked for parameters and reopened.
 pub data Mark : Type 0 where
   draft : Mark
   fitted : Mark
 
--- The plain sheet: a road, its rows with their lengths, and a mark.
+-- The plain sheet is a sheet as the rules see it, whatever memory its rows lie in: a road, the rows with their lengths, and a mark.
 pub record Plain : Type 0 where
   pub road : Road
   pub rows : List Row
@@ -59,7 +59,7 @@ pub data Answer : Type 0 where
   value : ℕ → Answer
   -- one of the twelve refusals, with the row that it names
   refused : (number row : ℕ) → Answer
-  -- a sheet of this mark does not have the call
+  -- barred: a sheet of this mark does not have the call; this is no refusal, and names no row
   barred : Answer
 
 -- The answers of a call that was not carried out.
@@ -97,7 +97,7 @@ named (fit limit) = 0
 named (parameter row at) = row
 named reopen = 0
 
--- Row n of the rows.
+-- Row n of the rows is r.
 pub record RowAt (rows : List Row) (n : ℕ) (r : Row) : Type 0 where
   pub within : n < length rows
   pub is : r ≡ slice_index_or rows n r
@@ -149,7 +149,7 @@ with_rows s rows = record { road = s.road; rows = rows; mark = s.mark }
 abbrev pub marked : Mark → Plain → Plain
 marked mark s = record { road = s.road; rows = s.rows; mark = mark }
 
--- What a call does and answers that is not refused.
+-- What a call does and answers where none of its grounds applies. Fitting alone may then still be refused: by number 12, which names a row of its own.
 abbrev pub Effect : Plain → Call → Answer → Plain → Type 0
 Effect s (add place given) a s' = (a ≡ done) × ((r : Row) × Given given r × (s' ≡ with_rows s (insert s.rows place r)))
 Effect s (take_out n) a s' = (a ≡ done) × (s' ≡ with_rows s (remove s.rows n))

@@ -1,5 +1,7 @@
 -- The radii that keep a rule, as a range.
-use Rattle.std.specs.Prelude.{ℕ, ◌-◌, ◌*◌, ◌≤◌, Some, None, Option}
+use Rattle.std.specs.Prelude.{ℕ, ◌+◌, ◌-◌, ◌*◌, ◌/◌, ◌%◌, ◌≤◌, min, cond, nat_lt, nat_le, Some, None, Option}
+use Rattle.road.specs.declared.road.Road.{Road}
+use Rattle.findings.specs.Rules.{limited_length_lem, radius_after_run_lem}
 use Rattle.radii.specs.declared.NextRadius.{NextRadius}
 
 abbrev pub UpTo : Option ℕ → ℕ → Type 0
@@ -17,3 +19,29 @@ pub record RangeOf (Keeps : ℕ → Type 0) (range : NextRadius) : Type 0 where
 -- Rule 9: the radius is wide enough for a small turn.
 abbrev pub WideEnough : (turn radius : ℕ) → Type 0
 WideEnough turn radius = 1_591_500 * (130_000 - turn) ≤ radius * turn
+
+-- The same, computed. The contracts show that these are the ranges of the rules.
+
+-- A quotient, rounded up.
+abbrev pub divided_up : (n by : ℕ) → ℕ
+divided_up n by = n / by + min 1 (n % by)
+
+abbrev pub from_least_lem : ℕ → NextRadius
+from_least_lem least = record { least = least; greatest = None }
+
+-- Table 4.7.
+abbrev pub tabled_lem : (r : ℕ) → NextRadius
+tabled_lem r =
+    cond (nat_lt r 50_000) (from_least_lem 0)
+    (cond (nat_le r 450_000) (record { least = divided_up (50 * r + 600_600) 77; greatest = Some ((127 * r - 1_152_001) / 80) })
+    (cond (nat_le r 700_000) (record { least = divided_up (40 * r + 22_504_500) 135; greatest = Some ((110 * r - 32_000_001) / 25) })
+    (cond (nat_le r 1_800_000) (from_least_lem (divided_up (40 * r + 22_504_500) 135)) (from_least_lem 700_000))))
+
+-- The radii that may follow r over a run.
+abbrev pub next_radius_lem : Road → (run r : ℕ) → NextRadius
+next_radius_lem road run r =
+    cond (nat_le run (limited_length_lem road.speed)) (tabled_lem r) (from_least_lem (radius_after_run_lem road.group road.least_radius))
+
+-- The least radius that is wide enough for a turn.
+abbrev pub least_radius_lem : (turn : ℕ) → ℕ
+least_radius_lem turn = divided_up (1_591_500 * (130_000 - turn)) turn

@@ -1,10 +1,10 @@
 // The radii that keep a rule: mm.
 #![tactic(auto)]
 
-ghost use Rattle.std.specs.Prelude.{◌≡◌, Some, None};
+ghost use Rattle.std.specs.Prelude.{◌≡◌, Some};
 ghost use Rattle.limits.specs.Least.{Smallest};
 ghost use Rattle.findings.specs.Rules.{Tabled, Follows};
-ghost use Rattle.radii.specs.Ranges.{RangeOf, WideEnough};
+ghost use Rattle.radii.specs.Ranges.{RangeOf, WideEnough, from_least_lem, tabled_lem, next_radius_lem, least_radius_lem};
 ghost use Rattle.radii.specs.Words.{radius_words};
 
 use findings::figures::{limited_length, radius_after_run};
@@ -22,7 +22,7 @@ pub struct NextRadius {
 impl NextRadius {
     // The radii from a least one on.
     fn from_least(least: u64) -> NextRadius
-        ensures { (result.least ≡ least) × (result.greatest ≡ None) }
+        ensures { result ≡ from_least_lem least }
     {
         NextRadius {
             least,
@@ -45,7 +45,8 @@ impl fmt::Display for NextRadius {
 
 // The radii that may follow by Table 4.7.
 fn tabled(radius: u32) -> NextRadius
-    ensures { RangeOf (Tabled radius) result }
+    ensures value { result ≡ tabled_lem radius }
+    ensures range { RangeOf (Tabled radius) result }
 {
     let r = radius as u64;
     if r < 50_000 {
@@ -69,7 +70,8 @@ fn tabled(radius: u32) -> NextRadius
 
 // The radii that may follow over a run of that length, 0 where there is none.
 pub fn next_radius(road: &Road, run: u64, radius: u32) -> NextRadius
-    ensures { RangeOf (Follows road.now run radius) result }
+    ensures value { result ≡ next_radius_lem road.now run radius }
+    ensures range { RangeOf (Follows road.now run radius) result }
 {
     if run <= limited_length(road.speed) {
         tabled(radius)
@@ -80,7 +82,8 @@ pub fn next_radius(road: &Road, run: u64, radius: u32) -> NextRadius
 
 // The least radius that is wide enough for the curve's turn, where that is small. The test of it, in `findings`, needs no division.
 pub fn least_radius(curve: &Curve) -> u64
-    ensures { Smallest (WideEnough curve.now.turn) result }
+    ensures value { result ≡ least_radius_lem curve.now.turn }
+    ensures least { Smallest (WideEnough curve.now.turn) result }
 {
     let turn = curve.turn as u64;
     (1_591_500 * 130_000u64.saturating_sub(turn)).div_ceil(turn)

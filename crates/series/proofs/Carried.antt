@@ -13,7 +13,7 @@ use Rattle.series.specs.declared.answer.Answer.TheVariants as answer
 use Rattle.series.specs.declared.mark.Sheet.{Sheet}
 use Rattle.series.specs.declared.mark.Sheet.TheVariants as sheet
 use Rattle.series.specs.Calls.{stands, told, Kept}
-use Rattle.series.specs.Runs.{Turn, Seen, Left, look, Lent, Chain, last_of, Watched, over, over_all, opened_in, CarriedOut}
+use Rattle.series.specs.Runs.{Turn, Seen, Left, look, Lent, Chain, last_of, Watched, findings_after, findings_after_all, opened_in, CarriedOut}
 use Rattle.series.proofs.Chains.{chained, chain_fits, chain_more, last_more, watched_more, over_more}
 
 -- a sheet just opened, with any memory
@@ -29,7 +29,7 @@ pub record Sofar {W : Type 0} (sees : W → Seen → W → Type 0) (turns : List
   pub chain : Chain s turns trail
   pub watched : Watched sees w (map look trail) w'
   pub ends : s' ≡ last_of s trail
-  pub written : findings' ≡ over_all trail findings
+  pub written : findings' ≡ findings_after_all trail findings
 
 -- a call that was lent the front of the rows
 pub lent_front : (s n : Sheet) (rows part : List RowRecord) (room : ℕ) (c : Call) (a : Answer) → room ≤ length rows → Performs (stands s (take room rows)) c a (stands n part) → Lent room (stands s rows) c a (stands n (part ++ drop room rows))
@@ -42,7 +42,7 @@ lent_front s n rows part room c a within p =
     }
 
 -- what the findings memory holds after an answer
-pub over_by : (a : RealAnswer) (before after : List Finding) → Kept a before after → after ≡ over (told a after) before
+pub over_by : (a : RealAnswer) (before after : List Finding) → Kept a before after → after ≡ findings_after (told a after) before
 over_by answer.Done before after same = same
 over_by (answer.Found n) before after (within, long, past) =
     let number : length (take n after) ≡ n = length-take-le n after (omega arith) in
@@ -56,7 +56,7 @@ module _ {W : Type 0} (sees : W → Seen → W → Type 0) (w : W) (findings : L
   none_yet = record { trail = []; chain = tt; watched = refl; ends = refl; written = refl }
 
   -- one call more
-  pub more : (turns : List Turn) (v w' : W) (mid findings' : List Finding) (t s' : State) (q : Turn) (a : Answer) → Sofar sees turns w v findings mid s t → Lent q.room t (q.call t.count) a s' → sees v (record { answer = a; sheet = shown s' }) w' → findings' ≡ over a mid → Sofar sees (turns ++ q ∷ []) w w' findings findings' s s'
+  pub more : (turns : List Turn) (v w' : W) (mid findings' : List Finding) (t s' : State) (q : Turn) (a : Answer) → Sofar sees turns w v findings mid s t → Lent q.room t (q.call t.count) a s' → sees v (record { answer = a; sheet = shown s' }) w' → findings' ≡ findings_after a mid → Sofar sees (turns ++ q ∷ []) w w' findings findings' s s'
   more turns v w' mid findings' t s' q a before call saw wrote =
       let x : Left = record { answer = a; state = s' } in
       record {
@@ -64,11 +64,11 @@ module _ {W : Type 0} (sees : W → Seen → W → Type 0) (w : W) (findings : L
         chain = chain_more s turns before.trail q x before.chain (subst (λ u. Lent q.room u (q.call u.count) a s') before.ends call);
         watched = subst (λ xs. Watched sees w xs w') (sym (map-append look before.trail (x ∷ []))) (watched_more sees w (map look before.trail) v (look x) w' before.watched saw);
         ends = sym (last_more s before.trail x);
-        written = wrote ∙ ap (over a) before.written ∙ sym (over_more before.trail x findings);
+        written = wrote ∙ ap (findings_after a) before.written ∙ sym (over_more before.trail x findings);
       }
 
   -- the same, over the items of a slice
-  pub next : {X : Type 0} (f : X → Turn) (xs : List X) (i : ℕ) (x : X) (v w' : W) (mid findings' : List Finding) (t s' : State) (room : ℕ) (c : Call) (a : Answer) → i < length xs → x ≡ get_or xs i x → Sofar sees (map f (take i xs)) w v findings mid s t → room ≡ (f x).room → c ≡ (f x).call t.count → Lent room t c a s' → sees v (record { answer = a; sheet = shown s' }) w' → findings' ≡ over a mid → Sofar sees (map f (take (i + 1) xs)) w w' findings findings' s s'
+  pub next : {X : Type 0} (f : X → Turn) (xs : List X) (i : ℕ) (x : X) (v w' : W) (mid findings' : List Finding) (t s' : State) (room : ℕ) (c : Call) (a : Answer) → i < length xs → x ≡ get_or xs i x → Sofar sees (map f (take i xs)) w v findings mid s t → room ≡ (f x).room → c ≡ (f x).call t.count → Lent room t c a s' → sees v (record { answer = a; sheet = shown s' }) w' → findings' ≡ findings_after a mid → Sofar sees (map f (take (i + 1) xs)) w w' findings findings' s s'
   next f xs i x v w' mid findings' t s' room c a lt is before rooms calls call saw wrote =
       let same = subst (λ n. Lent n t ((f x).call t.count) a s') rooms (subst (λ d. Lent room t d a s') calls call) in
       subst (λ qs. Sofar sees qs w w' findings findings' s s')
@@ -76,15 +76,15 @@ module _ {W : Type 0} (sees : W → Seen → W → Type 0) (w : W) (findings : L
       (more (map f (take i xs)) v w' mid findings' t s' (f x) a before same saw wrote)
 
   -- all of them
-  pub all : {X : Type 0} (f : X → Turn) (xs : List X) (i : ℕ) (w' : W) (findings' : List Finding) (s' : State) → length xs ≤ i → Sofar sees (map f (take i xs)) w w' findings findings' s s' → s.count ≤ length s.memory → CarriedOut sees (map f xs) w w' findings findings' s s'
-  all f xs i w' findings' s' past sofar fits =
+  pub all : {X : Type 0} (f : X → Turn) (xs : List X) (i : ℕ) (w' : W) (findings' : List Finding) (s' : State) → length xs ≤ i → Sofar sees (map f (take i xs)) w w' findings findings' s s' → CarriedOut sees (map f xs) w w' findings findings' s s'
+  all f xs i w' findings' s' past sofar =
       let whole : Sofar sees (map f xs) w w' findings findings' s s' = subst (λ ys. Sofar sees (map f ys) w w' findings findings' s s') (take_all i xs past) sofar in
       record {
         trail = whole.trail;
         chain = whole.chain;
-        run = chained s (map f xs) whole.trail fits whole.chain;
+        run = λ fits. chained s (map f xs) whole.trail fits whole.chain;
         watched = whole.watched;
         ends = whole.ends;
-        fits = subst (λ t. t.count ≤ length t.memory) (sym whole.ends) (chain_fits s (map f xs) whole.trail fits whole.chain);
+        fits = λ fits. subst (λ t. t.count ≤ length t.memory) (sym whole.ends) (chain_fits s (map f xs) whole.trail fits whole.chain);
         written = whole.written;
       }

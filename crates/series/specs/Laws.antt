@@ -1,12 +1,14 @@
 -- What holds of the plain sheet and of its runs, whoever makes the calls.
-use Rattle.std.specs.Prelude.{◌≡◌, ℕ, ◌≤◌, List, [], ◌∷◌, ◌++◌, map, length}
+use Rattle.std.specs.Prelude.{◌≡◌, ℕ, ◌≤◌, List, ◌++◌, map, length}
+use Rattle.std.specs.List.{Any}
 use Rattle.road.specs.declared.road.Road.{Road}
 use Rattle.limits.specs.declared.place.Place.{Place}
 use Rattle.rows.specs.declared.record.RowRecord.{RowRecord}
-use Rattle.plain.specs.Lengths.{Alike}
-use Rattle.plain.specs.Sheet.{draft, opened, Plain, Meaning, Call, fit, Answer, done, barred, Allowed, Step}
+use Rattle.plain.specs.Lengths.{Alike, LeastLengths}
+use Rattle.plain.specs.Sheet.{draft, fitted, opened, Plain, Meaning, Call, fit, Answer, done, barred, Allowed, Step}
 use Rattle.sheet.specs.States.{State, shown}
-use Rattle.series.specs.Runs.{Turn, Seen, Run, Left, look, Chain, opened_in}
+use Rattle.series.specs.Runs.{Turn, Seen, Run, last_seen, Left, look, Chain, opened_in}
+use Rattle.series.specs.ByHand.{Paired, firsts, seconds, ButLengths}
 
 -- From each sheet and call there is one answer, and one sheet after.
 abbrev pub OneStep : Type 0
@@ -37,16 +39,33 @@ FitsAgree =
 abbrev pub ChainsRun : Type 0
 ChainsRun = (s : State) (turns : List Turn) (trail : List Left) → s.count ≤ length s.memory → Chain s turns trail → Run (shown s) turns (map look trail)
 
+-- The turn is a fit under the limit.
+abbrev pub FitsUnder : Meaning → Turn → Type 0
+FitsUnder limit q = (count : ℕ) × (q.call count ≡ fit limit)
+
+-- The sheet has the least lengths that keep the rules under the limit.
+abbrev pub HasLeast : Meaning → Plain → Type 0
+HasLeast limit s = LeastLengths s.road limit.admits s.rows s.rows
+
+-- Whatever calls follow the opening: where they leave the sheet fitted, it has the least lengths under the limit of a fit among them.
+abbrev pub FittedIsLeast : Type 0
+FittedIsLeast =
+    (road : Road) (turns : List Turn) (xs : List Seen)
+    → Run (opened road) turns xs
+    → (last_seen (opened road) xs).mark ≡ fitted
+    → (limit : Meaning) × Any (FitsUnder limit) turns × HasLeast limit (last_seen (opened road) xs)
+
+-- Lengths that are set by hand do not bear on what fitting gives: two series on a sheet that differ only in turns that set lengths by hand, wherever
+-- these stand, leave the same sheet but for its lengths, and where it is fitted the same sheet.
+abbrev pub HandLengths : Type 0
+HandLengths =
+    (s : Plain) (pairs : List Paired) (xs ys : List Seen) → Run s (firsts pairs) xs → Run s (seconds pairs) ys → ButLengths (last_seen s xs) (last_seen s ys)
+
 -- A sheet just opened is the plain sheet just opened, and every memory holds its rows: what carrying out promises holds of it without a premise.
 abbrev pub Opening : Type 0
 Opening = (road : Road) (memory : List RowRecord) → (shown (opened_in road memory) ≡ opened road) × ((opened_in road memory).count ≤ length memory)
 
--- The sheet that is seen last.
-abbrev pub last_seen : Plain → List Seen → Plain
-last_seen s [] = s
-last_seen s (x ∷ xs) = last_seen x.sheet xs
-
--- A series may be carried out in stretches: one after the other they are a run of the whole.
+-- A stretch is a part of a series that is carried out in one go. Stretches, one after the other, are a run of the whole.
 abbrev pub Stretches : Type 0
 Stretches = (s : Plain) (turns more : List Turn) (xs ys : List Seen) → Run s turns xs → Run (last_seen s xs) more ys → Run s (turns ++ more) (xs ++ ys)
 
@@ -58,3 +77,5 @@ pub record Laws : Type 0 where
   pub chains : ChainsRun
   pub barring : BarredOnly
   pub fits : FitsAgree
+  pub fitted_least : FittedIsLeast
+  pub hand : HandLengths

@@ -10,7 +10,7 @@ use Rattle.series.specs.declared.call.Request.{Request}
 use Rattle.series.specs.declared.mark.Sheet.{Sheet}
 use Rattle.series.specs.Calls.{stands, asked, told}
 
--- A turn of a series: how many rows its memory can hold, and its call, by the number of rows that there then are.
+-- A turn of a series, which is no turn of a curve: how many rows its memory can hold, and its call, by the number of rows that there then are.
 pub record Turn : Type 0 where
   pub room : ℕ
   pub call : (count : ℕ) → Call
@@ -20,12 +20,17 @@ pub record Seen : Type 0 where
   pub answer : Answer
   pub sheet : Plain
 
--- A run of the plain sheet: its step at each turn, and what is seen after it.
+-- A run of the plain sheet, which is no run of straights: its step at each turn of a series, and what is seen after it.
 abbrev pub Run : Plain → List Turn → List Seen → Type 0
 Run s [] [] = Unit {0}
 Run s [] (x ∷ xs) = ⊥
 Run s (q ∷ qs) [] = ⊥
 Run s (q ∷ qs) (x ∷ xs) = Step q.room s (q.call (length s.rows)) x.answer x.sheet × Run x.sheet qs xs
+
+-- The sheet that is seen last.
+abbrev pub last_seen : Plain → List Seen → Plain
+last_seen s [] = s
+last_seen s (x ∷ xs) = last_seen x.sheet xs
 
 -- What a turn leaves: the answer, and the sheet with all its memory.
 pub record Left : Type 0 where
@@ -57,22 +62,22 @@ abbrev pub last_of : State → List Left → State
 last_of s [] = s
 last_of s (x ∷ xs) = last_of x.state xs
 
--- A watcher goes from w to w' by seeing these, one after the other.
+-- A watcher, who is shown each answer and the sheet after it, goes from w to w' by seeing these, one after the other.
 abbrev pub Watched : {W : Type 0} → (W → Seen → W → Type 0) → W → List Seen → W → Type 0
 Watched sees w [] w' = w' ≡ w
 Watched {W = W} sees w (x ∷ xs) w' = (v : W) × sees w x v × Watched sees v xs w'
 
 -- What the findings memory holds after an answer, and after several: the findings of a check at its front, and past them what it held.
-abbrev pub over : Answer → List Finding → List Finding
-over done memory = memory
-over (found findings) memory = findings ++ drop (length findings) memory
-over (value A) memory = memory
-over (refused number row) memory = memory
-over barred memory = memory
+abbrev pub findings_after : Answer → List Finding → List Finding
+findings_after done memory = memory
+findings_after (found findings) memory = findings ++ drop (length findings) memory
+findings_after (value A) memory = memory
+findings_after (refused number row) memory = memory
+findings_after barred memory = memory
 
-abbrev pub over_all : List Left → List Finding → List Finding
-over_all [] memory = memory
-over_all (x ∷ xs) memory = over_all xs (over x.answer memory)
+abbrev pub findings_after_all : List Left → List Finding → List Finding
+findings_after_all [] memory = memory
+findings_after_all (x ∷ xs) memory = findings_after_all xs (findings_after x.answer memory)
 
 -- What a request asks, with so many slots of row memory and of findings memory; more cannot be lent.
 abbrev pub turn : {L : Type 0} → (L → Meaning) → (rows findings : ℕ) → Request L → Turn
@@ -82,16 +87,17 @@ turn meant rows findings q = record { room = min q.room rows; call = λ count. a
 abbrev pub seen : Sheet → List RowRecord → List Finding → RealAnswer → Seen
 seen s memory findings a = record { answer = told a findings; sheet = shown (stands s memory) }
 
--- The turns were carried out: each call kept its own contract; the answers and the sheets that the watcher was shown, one after the other, are a run
--- of the plain sheet; the sheet is the one that the last turn leaves, its memory holds its rows; and the findings memory has what the checks wrote.
+-- The turns were carried out: each call kept its own contract, and the watcher was shown its answer and the sheet after it; the sheet is the one that
+-- the last turn leaves, and the findings memory has what the checks wrote. Where the memory held the sheet's rows, what the watcher was shown is a run
+-- of the plain sheet, and the memory holds the rows of the sheet that is left.
 pub record CarriedOut {W : Type 0} (sees : W → Seen → W → Type 0) (turns : List Turn) (w w' : W) (findings findings' : List Finding) (s s' : State) : Type 0 where
   pub trail : List Left
   pub chain : Chain s turns trail
-  pub run : Run (shown s) turns (map look trail)
+  pub run : s.count ≤ length s.memory → Run (shown s) turns (map look trail)
   pub watched : Watched sees w (map look trail) w'
   pub ends : s' ≡ last_of s trail
-  pub fits : s'.count ≤ length s'.memory
-  pub written : findings' ≡ over_all trail findings
+  pub fits : s.count ≤ length s.memory → s'.count ≤ length s'.memory
+  pub written : findings' ≡ findings_after_all trail findings
 
 -- A sheet just opened, with its memory.
 abbrev pub opened_in : Road → List RowRecord → State

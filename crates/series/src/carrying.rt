@@ -1,5 +1,5 @@
 // Any series of calls, from a sheet just opened on.
-ghost use Rattle.std.specs.Prelude.{◌≡◌, ◌≤◌, List, length, map};
+ghost use Rattle.std.specs.Prelude.{◌≡◌, List, length, map};
 ghost use Rattle.rows.specs.declared.record.RowRecord.{RowRecord};
 ghost use Rattle.series.specs.Calls.{meaning, stands};
 ghost use Rattle.series.specs.Runs.{turn, opened_in, CarriedOut};
@@ -30,7 +30,7 @@ impl Sheet {
         requests: &[Request<L>],
         watcher: &mut W,
     ) -> Sheet
-        ensures series { (stands self rows.old).count ≤ length rows.old → CarriedOut W.Watcher.sees (map (turn (meaning L.Limit.admitted L.Limit.lawful) (length rows.old) (length findings.old)) requests.now) watcher.old watcher.new findings.old findings.new (stands self rows.old) (stands result rows.new) }
+        ensures series { CarriedOut W.Watcher.sees (map (turn (meaning L.Limit.admitted L.Limit.lawful) (length rows.old) (length findings.old)) requests.now) watcher.old watcher.new findings.old findings.new (stands self rows.old) (stands result rows.new) }
         ensures laws { Laws }
     {
         let mut sheet = self;

@@ -1,4 +1,4 @@
-// Who is shown the sheet after each call of a series.
+// A watcher: who is shown each answer of a series, and the sheet after it.
 ghost use Rattle.series.specs.Runs.{Seen, seen};
 
 use crate::answer::Answer;

@@ -2,11 +2,16 @@
 use Rattle.std.proofs.Common.{◌≡◌, ℕ, ◌+◌, ◌-◌, ◌^◌, min, cond, ◌==◌, List, Option, Some, Result, Ok, Err, OnOk, subst}
 use Rattle.std.specs.Borrow.{Bor}
 use Rattle.session.specs.declared.Session.{Session}
-use Rattle.session.specs.Answering.{with_line, Settled, Settles, Unmarked, BytesLeft, LineLeft}
+use Rattle.commands.specs.declared.command.Command.TheVariants.{Report}
+use Rattle.session.specs.Answering.{with_line, Settled, Settles, ReportLeft, CommandLeft, Unmarked, BytesLeft, LineLeft}
 
 pub settles : {W A E : Type 0} (contents : W → Option (List ℕ)) (does : Session → Session → Type 0) (before settled after : Session) (out out' : W) (r : Result A E) → Settled contents before out settled out' → does settled after → OnOk r (Settles contents does before out after)
 settles contents does before settled after out out' (Ok x) by then = (settled, out', by, then)
 settles contents does before settled after out out' (Err e) by then = tt
+
+pub reports : {W A E : Type 0} (contents : W → Option (List ℕ)) (before settled after : Session) (out mid out' : W) (r : Result A E) → Settled contents before out settled mid → OnOk r (ReportLeft contents settled mid after out') → OnOk r (CommandLeft contents Report before out after)
+reports contents before settled after out mid out' (Ok x) by then = (settled, mid, out', by, then)
+reports contents before settled after out mid out' (Err e) by then = tt
 
 -- where n lines came, with this one
 abbrev pub at_line : Session → ℕ → Session

@@ -7,7 +7,7 @@ use Rattle.road.specs.declared.design.RoadDesign.{RoadDesign}
 use Rattle.commands.specs.declared.mistake.ParseError.{ParseError}
 use Rattle.commands.specs.Said.{Answers}
 use Rattle.commands.specs.declared.command.Command.{Command}
-use Rattle.commands.specs.declared.command.Command.TheVariants.{Road, Label, Sheet, Rows, Limit}
+use Rattle.commands.specs.declared.command.Command.TheVariants.{Road, Label, Sheet, Rows, Report, Limit}
 use Rattle.commands.specs.declared.command.SheetCommand.{SheetCommand}
 use Rattle.choice.specs.declared.in_force.LimitsInForce.{LimitsInForce}
 use Rattle.choice.specs.declared.in_force.LimitsInForce.TheVariants.{Compulsory, Named}
@@ -16,6 +16,7 @@ use Rattle.answers.specs.declared.answer.Answer.{Answer}
 use Rattle.answers.specs.declared.failure.Failure.{Failure}
 use Rattle.answers.specs.declared.failure.Failure.TheVariants.{Refused, NoRoad, Fitted, Draft}
 use Rattle.desk.specs.Desk.{Opens, Labels, with_limits}
+use Rattle.desk.specs.Reporting.{Reports}
 use Rattle.desk.specs.Stretch.{CarriesOut}
 use Rattle.session.specs.declared.Session.{Session}
 
@@ -72,20 +73,39 @@ RowsLeftOn None before after = WrongLine before after
 abbrev pub RowsLeft : Session → Session → Type 0
 RowsLeft before after = RowsLeftOn before.desk.sheet before after
 
+module _ {W : Type 0} (contents : W → Option (List ℕ)) where
+  -- A report writes the sheet and what a check finds; where no sheet is open, the line is wrong.
+  pub record Reported (s : RealSheet) (before : Session) (out : W) (after : Session) (out' : W) : Type 0 where
+    pub desk : Reports contents (Some s) before.desk out after.desk out'
+    pub stretch : after.stretch ≡ before.stretch
+    pub wrong : after.wrong ≡ before.wrong
+
+  abbrev pub ReportLeftOn : Option RealSheet → Session → W → Session → W → Type 0
+  ReportLeftOn (Some s) before out after out' = Reported s before out after out'
+  ReportLeftOn None before out after out' = WrongLine before after
+
+  abbrev pub ReportLeft : Session → W → Session → W → Type 0
+  ReportLeft before out after out' = ReportLeftOn before.desk.sheet before out after out'
+
 -- Limits that were named.
 abbrev pub AreNamed : LimitsInForce → Type 0
 AreNamed Compulsory = ⊥
 AreNamed (Named limits) = Unit {0}
 
--- Naming limits puts those that were named in force for the open sheet. Where none is open, or a file cannot be read, the line is wrong.
+-- Naming limits puts those that were named in force for the open sheet.
 pub record Chosen (before after : Session) : Type 0 where
   pub named : AreNamed after.desk.limits
   pub desk : after.desk ≡ with_limits after.desk.limits before.desk
   pub stretch : after.stretch ≡ before.stretch
   pub wrong : after.wrong ≡ before.wrong
 
+-- Where no sheet is open, or a file cannot be read, the line is wrong.
+abbrev pub LimitLeftOn : Option RealSheet → Session → Session → Type 0
+LimitLeftOn (Some s) before after = Chosen before after ⊎ WrongLine before after
+LimitLeftOn None before after = WrongLine before after
+
 abbrev pub LimitLeft : Session → Session → Type 0
-LimitLeft before after = Chosen before after ⊎ WrongLine before after
+LimitLeft before after = LimitLeftOn before.desk.sheet before after
 
 -- A call of the open sheet is put at the end of the stretch, with the number of its line.
 pub record Put (command : SheetCommand) (before after : Session) : Type 0 where
@@ -117,6 +137,8 @@ module _ {W : Type 0} (contents : W → Option (List ℕ)) where
   CommandLeft (Label radius turn) before out after = Settles contents (LabelLeft radius turn) before out after
   CommandLeft (Sheet command) before out after = CallLeft command before.desk.sheet before out after
   CommandLeft Rows before out after = Settles contents RowsLeft before out after
+  CommandLeft Report before out after =
+      (settled : Session) × (mid : W) × (out' : W) × Settled contents before out settled mid × ReportLeft contents settled mid after out'
   CommandLeft Limit before out after = Settles contents LimitLeft before out after
 
   -- What a line leaves, by what its words say.

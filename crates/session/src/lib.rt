@@ -4,7 +4,7 @@
 mod choosing;
 
 ghost use Rattle.std.specs.Prelude.{◌≡◌, None, [], IfOk, OnOk, vec_items};
-ghost use Rattle.session.specs.Answering.{Counted, CountedBy, Settled, Settles, WrongLine, RoadLeft, LabelLeft, CallLeft, RowsLeft, LimitLeft, CommandLeft, TextLeft, BytesLeft, LineLeft, Unmarked, comment_bytes};
+ghost use Rattle.session.specs.Answering.{Counted, CountedBy, Settled, Settles, WrongLine, RoadLeft, LabelLeft, CallLeft, RowsLeft, ReportLeft, LimitLeft, CommandLeft, TextLeft, BytesLeft, LineLeft, Unmarked, comment_bytes};
 
 use answers::answer::Answer;
 use answers::failure::Failure;
@@ -168,6 +168,17 @@ impl Session {
         }
     }
 
+    // Shows the open sheet as a table, with what a check of it finds.
+    fn report<W: Write>(&mut self, out: &mut W) -> io::Result<()>
+        ensures left { OnOk result (ReportLeft W.contents self.old out.old self.new out.new) }
+        ensures lines { self.new.lines ≡ self.old.lines }
+    {
+        match self.desk.opened(Name::Report) {
+            Ok(()) => self.desk.report(out),
+            Err(no_road) => self.error(out, no_road),
+        }
+    }
+
     // Puts the limits that a line names in force for the open sheet.
     fn limit<W: Write>(&mut self, rt: &HostRuntime, out: &mut W, line: &str) -> io::Result<()>
         ensures left { LimitLeft self.old self.new }
@@ -210,6 +221,10 @@ impl Session {
                 self.flush(rt, out)?;
                 self.rows(out)
             }
+            Command::Report => {
+                self.flush(rt, out)?;
+                self.report(out)
+            }
             Command::Limit => {
                 self.flush(rt, out)?;
                 self.limit(rt, out, line)
@@ -239,7 +254,9 @@ impl Session {
             Err(_) if is_comment(bytes) => Ok(()),
             Err(e) => {
                 let valid = e.valid_up_to();
-                let what = format_args!("after {valid} bytes the line is not UTF-8 text");
+                let what = format_args!(
+                    "after {valid} bytes the line is not UTF-8 text: save the file as UTF-8"
+                );
                 self.wrong_line(rt, out, what)
             }
         }

@@ -87,12 +87,12 @@ abbrev pub Untouched : Result ℕ Refusal → List Finding → List Finding → 
 Untouched (Ok n) before after = (n ≤ length before) × (length after ≡ length before) × (drop n after ≡ drop n before)
 Untouched (Err r) before after = after ≡ before
 
--- What the numbers of a row to be added give: the row, or the refusal of one of them.
+-- For private contracts: what the numbers of a row to be added give, the row or the refusal of one of them.
 abbrev pub Numbered : ℕ → NewRow → Result Row Refusal → Type 0
 Numbered place given (Ok r) = Clear (number_grounds given []) × Given given r
 Numbered place given (Err refusal) = Refused (number_grounds given []) place refusal
 
--- What asking for the record of row n gives: record n, or the refusal of a memory that is too short or of a row that is not there.
+-- For private contracts: what asking for the record of row n gives, record n or the refusal of a memory that is too short or of a row that is not there.
 abbrev pub RecordAt : List RowRecord → (count n : ℕ) → Result RowRecord Refusal → Type 0
 RecordAt memory count n (Ok r) = (count ≤ length memory) × (n < count) × (r ≡ slice_index_or memory n r)
 RecordAt memory count n (Err refusal) = Refused (ground 7 (length memory < count) ∷ ground 8 (count ≤ n) ∷ []) n refusal

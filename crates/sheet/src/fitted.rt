@@ -1,4 +1,4 @@
-// A sheet whose curves have the least lengths: its road, and how many rows it has. It is moved and never copied.
+// A fitted sheet: as a fit left it, with the least lengths in the memory that was lent to that fit. It is moved and never copied.
 ghost use Rattle.std.specs.Prelude.{◌≤◌};
 
 use road::road::Road;

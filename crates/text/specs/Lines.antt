@@ -12,5 +12,6 @@ Grown None part after = after ≡ None
 Grown (Some front) part None = 16_384 < length front + length part
 Grown (Some front) part (Some front') = (length front + length part ≤ 16_384) × (front' ≡ front ++ part)
 
+-- none of the bytes is a newline, 10
 abbrev pub NoNewline : List ℕ → Type 0
 NoNewline bytes = (k : ℕ) → k < length bytes → slice_index bytes k ≢ 10

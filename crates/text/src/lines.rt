@@ -1,5 +1,5 @@
 // The line that is being read.
-ghost use Rattle.std.specs.Prelude.{◌≡◌, ◌≤◌, None, Some, [], ◌∷◌, ◌++◌, length, Decides, MatchOption, IfSome, OnOk};
+ghost use Rattle.std.specs.Prelude.{◌≡◌, ◌≤◌, None, Some, [], ◌∷◌, ◌++◌, length, Decides, MatchOption, IfSome, OnOk, OnErr};
 ghost use Rattle.text.specs.Lines.{Grown, NoNewline};
 
 use std::alloc::{AllocError, Global};
@@ -45,9 +45,10 @@ impl Pending {
         }
     }
 
-    // Adds what came next of the line.
+    // Adds what came next of the line. Where memory is short nothing is added.
     pub fn add(&mut self, part: &[u8]) -> Result<(), AllocError>
-        ensures { OnOk result (Grown self.old part.now self.new) }
+        ensures ok { OnOk result (Grown self.old part.now self.new) }
+        ensures err { OnErr result (self.new ≡ self.old) }
     {
         let Some(front) = &mut self.front else {
             return Ok(());

@@ -1,1 +1,7 @@
 pub mod Words
+pub mod Lengths
+pub mod InMetres
+pub mod Beside
+pub mod Explained
+pub mod Reasons
+pub mod Lines

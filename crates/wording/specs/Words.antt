@@ -89,3 +89,8 @@ reason_text (SmallTurn c least) = small_turn_text c least
 reason_text (ShortRun run same_sense shortest) = short_run_text run same_sense shortest
 reason_text (LongRun run longest) = long_run_text run longest
 reason_text (SlightTurn turn) = slight_turn_text turn
+
+-- Where there is no reason, the row is not there, or is not of the kind that the rule speaks of.
+abbrev pub because_text : Option Reason → List ℕ
+because_text (Some reason) = reason_text reason
+because_text None = codes "the row is not there"

@@ -1,4 +1,5 @@
 // A finding with what it speaks of, to be shown in plain words.
+use crate::reason::Because;
 use findings::finding::Finding;
 use road::road::Road;
 use rows::record::RowRecord;
@@ -14,6 +15,11 @@ pub struct Explained<'a> {
 }
 
 impl fmt::Display for Explained<'_> {
+    ghost use Rattle.std.specs.Prelude.{Some};
+    ghost use Rattle.wording.specs.Lines.{explained_text};
+
+    ghost output = { λ explained. Some (explained_text explained) };
+
     fn fmt<W: fmt::Write>(&self, f: &mut fmt::Formatter<W>) -> fmt::Result {
         let Finding {
             row,
@@ -21,10 +27,7 @@ impl fmt::Display for Explained<'_> {
             side,
             weight,
         } = self.finding;
-        write!(f, "finding {row} {rule} {side} {weight}: ")?;
-        match self.reason() {
-            Some(reason) => write!(f, "{reason}"),
-            None => f.write_str("the row is not there"),
-        }
+        let because = Because(self.reason());
+        write!(f, "finding {row} {rule} {side} {weight}: {because}")
     }
 }

@@ -2,7 +2,9 @@
 #![tactic(auto)]
 
 pub mod explained;
-mod neighbours;
-mod reason;
+pub mod in_metres;
+mod lengths;
+pub mod neighbours;
+pub mod reason;
 mod reasons;
 mod words;

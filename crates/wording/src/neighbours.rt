@@ -1,75 +1,83 @@
 // The curves beside a row, and the runs between.
-ghost use Rattle.std.specs.Iterator.{IsFinite};
+ghost use Rattle.std.specs.Prelude.{◌≡◌, ◌+◌, ◌<◌, ◌^◌, map, length};
+ghost use Rattle.rows.specs.Reading.{row_of};
+ghost use Rattle.wording.specs.Beside.{next_curve, last_curve_lem, right_before_lem, run_on};
 
-use crate::explained::Explained;
 use rows::record::RowRecord;
-use rows::row::{Curve, Row};
+use rows::row::{Curve, Row, Straight};
 
 // A curve beside a row, where it stands, and the length of the run between the two, 0 where there is none.
 #[derive(Clone, Copy)]
-pub(crate) struct Neighbour {
+pub struct Neighbour {
     pub row: usize,
     pub curve: Curve,
-    // mm
+    // mm, the greatest number of 64 bits where it is longer
     pub run: u64,
 }
 
-// The first curve of the rows, in the order in which they come, each with its number. The check's own walk does not tell the number.
-fn first_curve<'a, I: Iterator<Item = (usize, &'a RowRecord)> + Drop>(rows: I) -> Option<Neighbour>
-    requires can { I.can_next rows }
-    requires ends { IsFinite (I.remaining rows) }
+// The first curve of the rows, which are counted from that number.
+pub(crate) fn first_curve(from: usize, rows: &[RowRecord]) -> Option<Neighbour>
+    requires { from + length rows.now < 2 ^ 64 }
+    ensures { result ≡ next_curve 0 from (map row_of rows.now) }
 {
     let mut run = 0u64;
-    for (row, record) in rows {
+    for (offset, record) in rows.iter().enumerate() {
         match record.read() {
             Row::Straight(straight) => run = run.saturating_add(straight.length as u64),
-            Row::Curve(curve) => return Some(Neighbour { row, curve, run }),
+            Row::Curve(curve) => {
+                return Some(Neighbour {
+                    row: from + offset,
+                    curve,
+                    run,
+                });
+            }
         }
     }
     None
 }
 
-// The length of a straight.
-fn straight_length(row: Row) -> Option<u64> {
-    match row {
-        Row::Straight(straight) => Some(straight.length as u64),
-        Row::Curve(_) => None,
+// The last curve of the rows.
+pub(crate) fn last_curve(rows: &[RowRecord]) -> Option<Neighbour>
+    ensures { result ≡ last_curve_lem (map row_of rows.now) }
+{
+    let mut run = 0u64;
+    let mut rest = rows;
+    while let Some((record, before)) = rest.split_last() {
+        match record.read() {
+            Row::Straight(straight) => run = run.saturating_add(straight.length as u64),
+            Row::Curve(curve) => {
+                return Some(Neighbour {
+                    row: before.len(),
+                    curve,
+                    run,
+                });
+            }
+        }
+        rest = before;
+    }
+    None
+}
+
+// The last of the rows, if it is a curve. A straight has a length, so a run of 0 is none.
+pub(crate) fn curve_right_before(rows: &[RowRecord]) -> Option<Neighbour>
+    ensures { result ≡ right_before_lem (map row_of rows.now) }
+{
+    match last_curve(rows) {
+        Some(neighbour) if neighbour.run == 0 => Some(neighbour),
+        _ => None,
     }
 }
 
-impl Explained<'_> {
-    // The finding's row, if it is there.
-    pub(crate) fn row(&self) -> Option<Row> {
-        self.rows.get(self.finding.row).map(|record| record.read())
-    }
-
-    // The row before, if it is a curve.
-    pub(crate) fn curve_right_before(&self) -> Option<Neighbour> {
-        let row = self.finding.row.checked_sub(1)?;
-        match self.rows.get(row)?.read() {
-            Row::Straight(_) => None,
-            Row::Curve(curve) => Some(Neighbour { row, curve, run: 0 }),
+// The length of the run that the straight begins and the rows after it go on with.
+pub(crate) fn run_from(straight: Straight, after: &[RowRecord]) -> u64
+    ensures { result ≡ run_on straight.length (map row_of after.now) }
+{
+    let mut run = straight.length as u64;
+    for record in after {
+        match record.read() {
+            Row::Straight(straight) => run = run.saturating_add(straight.length as u64),
+            Row::Curve(_) => return run,
         }
     }
-
-    // The last curve before the row.
-    pub(crate) fn curve_before(&self) -> Option<Neighbour> {
-        let before = &self.rows[..self.finding.row.min(self.rows.len())];
-        first_curve(before.iter().enumerate().rev())
-    }
-
-    // The first curve after the row.
-    pub(crate) fn curve_after(&self) -> Option<Neighbour> {
-        let next = self.finding.row.saturating_add(1);
-        first_curve(self.rows.iter().enumerate().skip(next))
-    }
-
-    // The length of the straights from the row on, up to the next curve or the end.
-    pub(crate) fn run(&self) -> u64 {
-        self.rows
-            .iter()
-            .skip(self.finding.row)
-            .map_while(|record| straight_length(record.read()))
-            .fold(0, |run, length| run.saturating_add(length))
-    }
+    run
 }

@@ -6,14 +6,14 @@ use rows::row::Curve;
 
 // A clothoid of a curve.
 #[derive(Clone, Copy)]
-pub(crate) struct Clothoid {
+pub struct Clothoid {
     pub end: End,
     pub length: u32,
 }
 
 // A radius that is not one of those that may follow the neighbour's; at the exit, in the return sense.
 #[derive(Clone, Copy)]
-pub(crate) struct Disagreement {
+pub struct Disagreement {
     pub end: End,
     pub radius: u32,
     pub neighbour: Neighbour,
@@ -21,7 +21,7 @@ pub(crate) struct Disagreement {
 }
 
 #[derive(Clone, Copy)]
-pub(crate) enum Reason {
+pub enum Reason {
     Unadmitted {
         clothoid: Clothoid,
         least: Option<u32>,
@@ -59,3 +59,7 @@ pub(crate) enum Reason {
         turn: u32,
     },
 }
+
+// A reason, if there is one.
+#[derive(Clone, Copy)]
+pub(crate) struct Because(pub Option<Reason>);

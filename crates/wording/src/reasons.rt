@@ -1,14 +1,27 @@
-// Finding out what decides a finding. There is no reason where the row is beyond the rows, or not of the kind that the rule speaks of.
+// Finding out what decides a finding.
+ghost use Rattle.std.specs.Prelude.{◌≡◌, map, IsSome};
+ghost use Rattle.findings.specs.Findings.{Found};
+ghost use Rattle.findings.specs.Rules.{Admission};
+ghost use Rattle.rows.specs.Reading.{row_of};
+ghost use Rattle.findings.specs.declared.finding.Rule.TheVariants as rule;
+ghost use Rattle.wording.specs.Explained.{Explains};
+ghost use Rattle.wording.specs.Reasons.{end_at_lem, unadmitted_of, clothoid_at, disharmony_of, disagreement_of, curve_reason_by, short_run_of, run_reason_by, reason_of};
+ghost use Rattle.wording.specs.Beside.{right_before_lem};
+
 use crate::explained::Explained;
+use crate::neighbours::{curve_right_before, first_curve, last_curve, run_from};
 use crate::reason::{Clothoid, Disagreement, Reason};
 use findings::figures::{longest_run, shortest_run};
 use findings::finding::{Rule, Side};
 use radii::{least_radius, next_radius};
 use rows::end::End;
-use rows::row::{Curve, Row};
+use rows::record::RowRecord;
+use rows::row::{Curve, Row, Straight};
 
 // The end of a curve that a side is, if it is one. No `TryFrom`, since there is no error to name.
-fn end_at(side: Side) -> Option<End> {
+fn end_at(side: Side) -> Option<End>
+    ensures { result ≡ end_at_lem side }
+{
     match side {
         Side::Whole => None,
         Side::Entry => Some(End::Entry),
@@ -16,37 +29,32 @@ fn end_at(side: Side) -> Option<End> {
     }
 }
 
+// In all of these, `before` are the rows before the finding's row, and `after` those after it.
 impl Explained<'_> {
-    // Rules 1 to 3, on the clothoid at the finding's side.
-    fn clothoid_reason(&self, curve: Curve) -> Option<Reason> {
+    // Rules 1 to 3: the clothoid at the finding's side.
+    fn clothoid(&self, curve: Curve) -> Option<Clothoid>
+        ensures { result ≡ clothoid_at (end_at_lem self.now.finding.side) curve }
+    {
         let end = end_at(self.finding.side)?;
-        let clothoid = Clothoid {
+        Some(Clothoid {
             end,
             length: curve.length_at(end),
-        };
-        let least = self.least;
-        Some(match self.finding.rule {
-            Rule::AdmittedLength => Reason::Unadmitted { clothoid, least },
-            Rule::LongestLength => Reason::TooLong { clothoid, least },
-            _ => Reason::Uncalled(clothoid),
-        })
-    }
-
-    // Rule 5: the curve stands right after another.
-    fn disharmony(&self, curve: Curve) -> Option<Reason> {
-        let before = self.curve_right_before()?;
-        Some(Reason::Disharmony {
-            before,
-            entry: curve.entry,
         })
     }
 
     // Rule 8: at the entry by the curve before, at the exit by the curve after.
-    fn disagreement(&self, curve: Curve) -> Option<Reason> {
+    fn disagreement(
+        &self,
+        before: &[RowRecord],
+        curve: Curve,
+        after: &[RowRecord],
+    ) -> Option<Reason>
+        ensures { result ≡ disagreement_of self.now.road.now (end_at_lem self.now.finding.side) (map row_of before.now) curve (map row_of after.now) }
+    {
         let end = end_at(self.finding.side)?;
         let neighbour = match end {
-            End::Entry => self.curve_before()?,
-            End::Exit => self.curve_after()?,
+            End::Entry => last_curve(before)?,
+            End::Exit => first_curve(before.len() + 1, after)?,
         };
         Some(Reason::Disagreeing(Disagreement {
             end,
@@ -56,57 +64,92 @@ impl Explained<'_> {
         }))
     }
 
-    fn curve_reason(&self, curve: Curve) -> Option<Reason> {
-        match self.finding.rule {
-            Rule::AdmittedLength | Rule::LongestLength | Rule::NoClothoids => {
-                self.clothoid_reason(curve)
-            }
-            Rule::Symmetry => Some(Reason::Unequal(curve)),
-            Rule::Harmony => self.disharmony(curve),
-            Rule::ArcLeft => Some(Reason::NoArc(curve)),
-            Rule::LeastRadius => Some(Reason::TightRadius {
+    fn curve_reason(
+        &self,
+        before: &[RowRecord],
+        curve: Curve,
+        after: &[RowRecord],
+    ) -> Option<Reason>
+        ensures { result ≡ curve_reason_by self.now.finding.rule self.now (map row_of before.now) curve (map row_of after.now) }
+    {
+        let least = self.least;
+        Some(match self.finding.rule {
+            Rule::AdmittedLength => Reason::Unadmitted {
+                clothoid: self.clothoid(curve)?,
+                least,
+            },
+            Rule::LongestLength => Reason::TooLong {
+                clothoid: self.clothoid(curve)?,
+                least,
+            },
+            Rule::NoClothoids => Reason::Uncalled(self.clothoid(curve)?),
+            Rule::Symmetry => Reason::Unequal(curve),
+            Rule::Harmony => Reason::Disharmony {
+                before: curve_right_before(before)?,
+                entry: curve.entry,
+            },
+            Rule::ArcLeft => Reason::NoArc(curve),
+            Rule::LeastRadius => Reason::TightRadius {
                 radius: curve.radius,
                 least: self.road.least_radius,
-            }),
-            Rule::ConsecutiveRadii => self.disagreement(curve),
-            Rule::SmallTurn => Some(Reason::SmallTurn {
+            },
+            Rule::ConsecutiveRadii => self.disagreement(before, curve, after)?,
+            Rule::SmallTurn => Reason::SmallTurn {
                 curve,
                 least: least_radius(&curve),
-            }),
-            Rule::LeastTurn => Some(Reason::SlightTurn { turn: curve.turn }),
-            Rule::ShortestRun | Rule::LongestRun => None,
-        }
+            },
+            Rule::LeastTurn => Reason::SlightTurn { turn: curve.turn },
+            Rule::ShortestRun | Rule::LongestRun => return None,
+        })
     }
 
     // Rule 10: the run stands between two curves.
-    fn short_run(&self) -> Option<Reason> {
-        let before = self.curve_right_before()?;
-        let after = self.curve_after()?;
-        let one = before.curve.sense;
-        let other = after.curve.sense;
+    fn short_run(
+        &self,
+        before: &[RowRecord],
+        straight: Straight,
+        after: &[RowRecord],
+    ) -> Option<Reason>
+        ensures { result ≡ run_reason_by rule.ShortestRun self.now (map row_of before.now) straight (map row_of after.now) }
+    {
+        let one = curve_right_before(before)?.curve.sense;
+        let other = first_curve(before.len() + 1, after)?.curve.sense;
         Some(Reason::ShortRun {
-            run: self.run(),
+            run: run_from(straight, after),
             same_sense: one == other,
             shortest: shortest_run(self.road, one, other),
         })
     }
 
-    fn run_reason(&self) -> Option<Reason> {
+    fn run_reason(
+        &self,
+        before: &[RowRecord],
+        straight: Straight,
+        after: &[RowRecord],
+    ) -> Option<Reason>
+        ensures { result ≡ run_reason_by self.now.finding.rule self.now (map row_of before.now) straight (map row_of after.now) }
+    {
         match self.finding.rule {
-            Rule::ShortestRun => self.short_run(),
+            Rule::ShortestRun => self.short_run(before, straight, after),
             Rule::LongestRun => Some(Reason::LongRun {
-                run: self.run(),
+                run: run_from(straight, after),
                 longest: longest_run(self.road),
             }),
             _ => None,
         }
     }
 
-    // What decides the finding.
-    pub(crate) fn reason(&self) -> Option<Reason> {
-        match self.row()? {
-            Row::Straight(_) => self.run_reason(),
-            Row::Curve(curve) => self.curve_reason(curve),
+    // What decides the finding. There is nothing where the row is beyond the rows, or not of the kind that the rule speaks of.
+    pub fn reason(&self) -> Option<Reason>
+        ensures value { result ≡ reason_of self.now }
+        ensures explains { Explains self.now result }
+        ensures found { (admission : Admission) → Found self.now.road.now admission (map row_of self.now.rows.now) self.now.finding → IsSome result }
+    {
+        let (before, from) = self.rows.split_at_checked(self.finding.row)?;
+        let (record, after) = from.split_first()?;
+        match record.read() {
+            Row::Straight(straight) => self.run_reason(before, straight, after),
+            Row::Curve(curve) => self.curve_reason(before, curve, after),
         }
     }
 }

@@ -1,10 +1,10 @@
 // Reasons in plain words.
 ghost use Rattle.std.specs.Prelude.{Some};
 ghost use Rattle.std.specs.Fmt.{WritesOnOk};
-ghost use Rattle.wording.specs.Words.{clothoid_text, unadmitted_text, too_long_text, uncalled_text, unequal_text, disharmony_text, no_arc_text, beyond_text, disagreement_text, tight_radius_text, small_turn_text, short_run_text, long_run_text, slight_turn_text, reason_text};
+ghost use Rattle.wording.specs.Words.{clothoid_text, unadmitted_text, too_long_text, uncalled_text, unequal_text, disharmony_text, no_arc_text, beyond_text, disagreement_text, tight_radius_text, small_turn_text, short_run_text, long_run_text, slight_turn_text, reason_text, because_text};
 
 use crate::neighbours::Neighbour;
-use crate::reason::{Clothoid, Disagreement, Reason};
+use crate::reason::{Because, Clothoid, Disagreement, Reason};
 use rows::end::End;
 use rows::row::Curve;
 use std::fmt;
@@ -221,6 +221,17 @@ impl fmt::Display for Reason {
             } => write_short_run(f, *run, *same_sense, *shortest),
             Reason::LongRun { run, longest } => write_long_run(f, *run, *longest),
             Reason::SlightTurn { turn } => write_slight_turn(f, *turn),
+        }
+    }
+}
+
+impl fmt::Display for Because {
+    ghost output = { λ because. Some (because_text because.0) };
+
+    fn fmt<W: fmt::Write>(&self, f: &mut fmt::Formatter<W>) -> fmt::Result {
+        match self.0 {
+            Some(reason) => write!(f, "{reason}"),
+            None => f.write_str("the row is not there"),
         }
     }
 }

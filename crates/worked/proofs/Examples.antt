@@ -1,10 +1,12 @@
 -- The worked curves, computed.
-use Rattle.std.proofs.Common.{◌≡◌, ℕ, ◌+◌, ◌*◌, ◌<◌, Some, None, Ok, Err, Option, Result, sym, refl, ap, ◌∙◌, inl, inr, arith, lit<, lit≤}
+use Rattle.std.proofs.Common.{◌≡◌, ℕ, ◌+◌, ◌*◌, ◌<◌, ◌≤◌, Some, None, Ok, Err, Option, Result, sym, refl, ap, ◌∙◌, inl, inr, arith, lit<, lit≤}
 use Rattle.superelevation.specs.declared.group.Group.TheVariants.{One, Two, Three}
 use Rattle.superelevation.specs.Superelevation.{Superelevation, superelevation_of}
 use Rattle.superelevation.proofs.Values.{agrees, computed}
 use Rattle.roots.specs.Roots.{Parameter}
-use Rattle.roots.proofs.Newton.{past}
+use Rattle.roots.proofs.Squares.{past}
+use Rattle.road.specs.declared.class.Class.TheVariants.{C}
+use Rattle.road.specs.declared.jerk.JerkChoice.TheVariants.{Usual}
 use Rattle.road.specs.declared.road.Road.{Road}
 use Rattle.limits.specs.declared.place.Place.{Place}
 use Rattle.limits.specs.Admission.{In, UpToLongest, both}
@@ -15,6 +17,8 @@ use Rattle.limits.proofs.Leasts.{found}
 use Rattle.norma.specs.Formulas.{comfort, transition, azimuth, shift, fifth_of_turn, compulsory}
 use Rattle.norma.specs.Lawful.{comfort_lawful, transition_lawful, azimuth_lawful, shift_lawful, fifth_lawful}
 use Rattle.rows.specs.declared.row.Curve.{Curve}
+use Rattle.rows.specs.declared.row.Sense.TheVariants.{Left}
+use Rattle.rows.specs.Bounded.{within_top}
 use Rattle.rows.specs.Curves.{place_of}
 use Rattle.findings.specs.Rules.{LeavesArc, Admitted, TooLong}
 use Rattle.road.specs.declared.refusal.Refusal.{Refusal}
@@ -104,6 +108,68 @@ no_arc c t w left =
     let here : 318_300 * (111_112 + 111_112) < 70_733 * 1_000_000 = rw (t.its_radius, t.its_entry, t.its_exit, w) at left in
     omega arith
 
+-- the road, a place on it, and curves
+abbrev example_road : Road
+example_road = record {
+  class = C;
+  speed = 100;
+  edge = 3_500;
+  lanes = 1;
+  choice = Usual;
+  group = Two;
+  least_radius = 450_000;
+  lane_factor = 100;
+  jerk = 4;
+  listed = refl;
+  grouped = refl;
+  least = refl;
+  factored = refl;
+  chosen = refl;
+  speeds = (lit≤ tt, lit≤ tt);
+  edges = (lit≤ tt, lit≤ tt);
+  turning = (lit≤ tt, lit≤ tt);
+  radii = (lit≤ tt, lit≤ tt);
+  factors = (lit≤ tt, lit≤ tt);
+  jerks = (lit≤ tt, lit≤ tt);
+}
+
+is_example : Example example_road
+is_example = record {
+  its_class = refl;
+  its_speed = refl;
+  its_edge = refl;
+  its_lanes = refl;
+  its_choice = refl;
+  line = refl;
+  factor = refl;
+  jerk = refl;
+}
+
+some_place : (radius : ℕ) → 1_000 ≤ radius → radius ≤ 10_000_000 → (place : Place) × ExamplePlace radius place
+some_place radius low high = (
+  record {
+    road = example_road;
+    radius = radius;
+    turn = 300_000;
+    superelevation = superelevation_of Two radius;
+    radii = (low, high);
+    turns = (lit≤ tt, lit≤ tt);
+    tabled = refl;
+    slopes = within_top Two radius;
+  },
+  record { its_road = is_example; its_radius = refl; its_turn = refl },
+)
+
+some_curve : (turn : ℕ) → 1 ≤ turn → turn ≤ 2_000_000 → (c : Curve) × TwoClothoids c × (c.turn ≡ turn)
+some_curve turn low high = (
+  record { sense = Left; radius = 1_000_000; turn = turn; entry = 111_112; exit = 111_112; within = ((lit≤ tt, lit≤ tt), ((low, high), (lit≤ tt, lit≤ tt))) },
+  record { its_radius = refl; its_entry = refl; its_exit = refl },
+  refl,
+)
+
+tight_curve : (c : Curve) × (c.radius ≡ 450_000)
+tight_curve = (record { sense = Left; radius = 450_000; turn = 1; entry = 0; exit = 0; within = ((lit≤ tt, lit≤ tt), ((lit≤ tt, lit≤ tt), (lit≤ tt, lit≤ tt))) }, refl)
+
 pub worked : Worked
 worked = record {
   conventional = conventional;
@@ -128,6 +194,7 @@ worked = record {
   tight_least = tight_least;
   longest = longest;
   too_long = too_long;
+  met = record { road = (example_road, is_example); place = some_place; curve = some_curve; tight = tight_curve };
 }
 
 parameter_is : (radius : ℕ) (least found : Option ℕ) → radius ≡ 1_000_000 → least ≡ Some 111_112 → ParameterOf radius least found → found ≡ Some 333_335

@@ -1,5 +1,5 @@
 -- Curves worked by hand, as facts about the definitions.
-use Rattle.std.specs.Prelude.{◌≡◌, ℕ, Some}
+use Rattle.std.specs.Prelude.{◌≡◌, ℕ, ◌≤◌, Some}
 use Rattle.superelevation.specs.declared.group.Group.TheVariants.{One, Three}
 use Rattle.superelevation.specs.Superelevation.{Superelevation}
 use Rattle.roots.specs.Roots.{Parameter}
@@ -20,6 +20,7 @@ use Rattle.label.specs.declared.Label.{Label}
 abbrev pub example_design : RoadDesign
 example_design = record { class = C; speed = 100; edge = 3_500; lanes = 1; choice = Usual }
 
+-- A road of that design.
 abbrev pub Example : Road → Type 0
 Example road = Holds example_design road
 
@@ -35,6 +36,14 @@ pub record TwoClothoids (c : Curve) : Type 0 where
   pub its_entry : c.entry ≡ 111_112
   pub its_exit : c.exit ≡ 111_112
 
+-- There are such roads, places and curves, so that no fact of the table is said of none.
+pub record Met : Type 0 where
+  pub road : (road : Road) × Example road
+  pub place : (radius : ℕ) → 1_000 ≤ radius → radius ≤ 10_000_000 → (place : Place) × ExamplePlace radius place
+  pub curve : (turn : ℕ) → 1 ≤ turn → turn ≤ 2_000_000 → (c : Curve) × TwoClothoids c × (c.turn ≡ turn)
+  pub tight : (c : Curve) × (c.radius ≡ 450_000)
+
+-- The table of the worked curves.
 pub record Worked : Type 0 where
   -- superelevations: on the example road, in the first group, and where the third group's formula ends
   pub conventional : (road : Road) → Example road → Superelevation road.group 1_000_000 647
@@ -52,13 +61,15 @@ pub record Worked : Type 0 where
   -- azimuth and shift want the same at 972 m, on every road
   pub azimuth_meets : (place : Place) → place.radius ≡ 972_000 → Smallest (In (azimuth place)) 108_000
   pub shift_meets : (place : Place) → place.radius ≡ 972_000 → Smallest (In (shift place)) 108_000
-  -- two clothoids of 111,112 mm leave an arc of 1,000 m at a turn of 7.0734 gon, and none at 7.0733
+  -- between two clothoids of 111,112 mm an arc of radius 1,000 m is left at a turn of 7.0734 gon, and none at 7.0733
   pub arc_left : (c : Curve) → TwoClothoids c → c.turn ≡ 70_734 → LeavesArc c
   pub no_arc : (c : Curve) → TwoClothoids c → c.turn ≡ 70_733 → LeavesArc c → ⊥
   -- on the example road the least compulsory length at 450 m is 73,485, so that 110,227 is not too long, and 110,228 is
   pub tight_least : (road : Road) (c : Curve) → Example road → c.radius ≡ 450_000 → Smallest (Admitted road compulsory c) 73_485
   pub longest : (road : Road) (c : Curve) → Example road → c.radius ≡ 450_000 → TooLong road compulsory c 110_227 → ⊥
   pub too_long : (road : Road) (c : Curve) → Example road → c.radius ≡ 450_000 → TooLong road compulsory c 110_228
+  -- the premises above are met
+  pub met : Met
 
 -- The label of the example curve of 1,000 m.
 abbrev pub example_label : Label

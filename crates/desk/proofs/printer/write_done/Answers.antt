@@ -2,7 +2,8 @@ use Rattle.std.proofs.Common.{length, ◌++◌, ap}
 use Rattle.answers.specs.declared.answer.Answer.TheVariants.{Fitted}
 use Rattle.answers.specs.Shown.{answer_text}
 use Rattle.desk.specs.Printing.{as_line}
-use Rattle.desk.proofs.Prints.{append_both, then_ok}
+use Rattle.report.proofs.Tables.{append_both}
+use Rattle.desk.proofs.Prints.{then_ok}
 use Rattle.desk.proofs.printer.write_done.Goals as goal
 
 pub returns-in_ok-writeln-in-Fit : goal.returns-in_ok-writeln-in-Fit

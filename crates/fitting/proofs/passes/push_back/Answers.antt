@@ -7,8 +7,8 @@ use Rattle.fitting.proofs.passes.push_back.Goals as goal
 abbrev any : Admission
 any place length = true
 
-pub with_lengths-requires : goal.with_lengths-requires
-with_lengths-requires c =
+pub set_lengths-requires : goal.set_lengths-requires
+set_lengths-requires c =
     raised_short c.args.road.now any c.loop-row.least_exit c.read.result c.raised-lengths.result (c.raised-lengths.ensures any) c.loop-row.invariant.short
 
 pub loop-row-preserved : goal.loop-row-preserved
@@ -19,12 +19,12 @@ loop-row-preserved c =
           rw c.beside-least_exit.ensures
           (beside_short c.raised-lengths.result.entry
           (raised_short c.args.road.now any c.loop-row.least_exit c.read.result c.raised-lengths.result (c.raised-lengths.ensures any) inv.short).0);
-      same = same_more (c.loop-row.row - 1) _ c.with_lengths.result _ c.loop-row.records c.args.records.now refl c.with_lengths.ensures.same inv.same;
+      same = same_more (c.loop-row.row - 1) _ c.set_lengths.new.stored _ c.loop-row.records c.args.records.now refl c.set_lengths.ensures.same inv.same;
       raised =
           λ admission.
           push_more c.args.road.now admission c.loop-row.row (c.loop-row.row - 1) c.loop-row.least_exit c.beside-least_exit.result c.raised-lengths.result
-          c.read.result _ c.with_lengths.result _ c.loop-row.records c.args.records.now (omega arith) (omega arith) refl c.read.ensures
-          (c.raised-lengths.ensures admission) c.beside-least_exit.ensures c.with_lengths.ensures.read inv.same (inv.raised admission);
+          c.read.result _ c.set_lengths.new.stored _ c.loop-row.records c.args.records.now (omega arith) (omega arith) refl c.read.ensures
+          (c.raised-lengths.ensures admission) c.beside-least_exit.ensures c.set_lengths.ensures.read inv.same (inv.raised admission);
     }
 
 pub returns-clause-lengths : goal.returns-clause-lengths

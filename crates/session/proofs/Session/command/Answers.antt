@@ -1,5 +1,5 @@
 use Rattle.session.specs.Answering.{RoadLeft, LabelLeft, RowsLeft, LimitLeft}
-use Rattle.session.proofs.Settling.{settles}
+use Rattle.session.proofs.Settling.{settles, reports}
 use Rattle.session.proofs.Session.command.Goals as goal
 
 pub returns-in_ok-flush-in-Road-clause-left : goal.returns-in_ok-flush-in-Road-clause-left
@@ -21,3 +21,8 @@ pub returns-in_ok-flush-in-Limit-clause-left : goal.returns-in_ok-flush-in-Limit
 returns-in_ok-flush-in-Limit-clause-left g c =
     rw c.in-Limit.is
     (settles g.W.Write.contents LimitLeft c.args.self.now c.flush-in-Limit.new.self _ c.args.out.now c.flush-in-Limit.new.out c.limit.result c.in_ok-flush-in-Limit.ensures.settled c.limit.ensures.left)
+
+pub returns-in_ok-flush-in-Report-clause-left : goal.returns-in_ok-flush-in-Report-clause-left
+returns-in_ok-flush-in-Report-clause-left g c =
+    rw c.in-Report.is
+    (reports g.W.Write.contents c.args.self.now c.flush-in-Report.new.self _ c.args.out.now c.flush-in-Report.new.out _ c.report.result c.in_ok-flush-in-Report.ensures.settled c.report.ensures.left)

@@ -1,0 +1,7 @@
+pub mod Columns
+pub mod Explaining
+pub mod Findings
+pub mod Headings
+pub mod Rows
+pub mod Shown
+pub mod Tables

@@ -1,0 +1,50 @@
+// A finding with what it speaks of.
+ghost use Rattle.report.specs.Explaining.{LeastOfRow, LeastAt, ExplainedAs};
+
+use choice::in_force::LimitsInForce;
+use findings::finding::{Finding, Rule};
+use road::road::Road;
+use rows::record::RowRecord;
+use rows::row::Row;
+use wording::explained::Explained;
+
+// The least length that is admitted for the clothoids of a row, if it is a curve and there is one.
+fn least_of_row(row: Row, road: &Road, limits: &LimitsInForce) -> Option<u32>
+    ensures { LeastOfRow road.now limits.now row result }
+{
+    match row {
+        Row::Straight(_) => None,
+        Row::Curve(curve) => curve.least_length(road, limits),
+    }
+}
+
+// The same of the row of that number, if there is one.
+fn least_at(row: usize, road: &Road, rows: &[RowRecord], limits: &LimitsInForce) -> Option<u32>
+    ensures { LeastAt road.now limits.now rows.now row result }
+{
+    if row >= rows.len() {
+        return None;
+    }
+    least_of_row(rows[row].read(), road, limits)
+}
+
+// The finding, with the least length where its rule speaks of it.
+pub fn explained<'a>(
+    finding: Finding,
+    road: &'a Road,
+    rows: &'a [RowRecord],
+    limits: &LimitsInForce,
+) -> Explained<'a>
+    ensures { ExplainedAs road.now limits.now rows.now finding result }
+{
+    let least = match finding.rule {
+        Rule::AdmittedLength | Rule::LongestLength => least_at(finding.row, road, rows, limits),
+        _ => None,
+    };
+    Explained {
+        finding,
+        road,
+        rows,
+        least,
+    }
+}

@@ -1,0 +1,129 @@
+// A row of a sheet as a row of the table.
+ghost use Rattle.std.specs.Prelude.{◌≡◌, Some};
+ghost use Rattle.report.specs.Rows.{Tabulates, GovernsCurve};
+ghost use Rattle.report.specs.Shown.{kind_text, governed_text, table_row_text};
+
+use crate::column::{GonColumn, MetresColumn, PercentColumn};
+use choice::governing::Governing;
+use choice::in_force::LimitsInForce;
+use road::road::Road;
+use roots::clothoid_parameter;
+use rows::row::{Curve, Row, Sense};
+use std::fmt;
+use superelevation::superelevation;
+
+#[derive(Clone, Copy)]
+pub enum TableRow {
+    Straight {
+        place: usize,
+        // mm
+        length: u32,
+    },
+    Curve {
+        place: usize,
+        curve: Curve,
+        // hundredths of a percent
+        superelevation: u32,
+        // the parameters of its clothoids, mm
+        entry: u32,
+        exit: u32,
+        // the limit that governs the place of its clothoids, where it calls for them
+        governing: Option<Governing>,
+    },
+}
+
+// The limit that governs a curve, if it calls for clothoids.
+fn governing_of(curve: &Curve, road: &Road, limits: &LimitsInForce) -> Option<Governing>
+    ensures { GovernsCurve road.now limits.now curve.now result }
+{
+    if !curve.calls_for_clothoids(road) {
+        return None;
+    }
+    limits.governing(&curve.place(road))
+}
+
+impl TableRow {
+    pub fn of(place: usize, row: Row, road: &Road, limits: &LimitsInForce) -> TableRow
+        ensures { Tabulates road.now limits.now place row result }
+    {
+        match row {
+            Row::Straight(straight) => TableRow::Straight {
+                place,
+                length: straight.length,
+            },
+            Row::Curve(curve) => TableRow::Curve {
+                place,
+                curve,
+                superelevation: superelevation(road.group, curve.radius),
+                entry: clothoid_parameter(curve.radius, curve.entry),
+                exit: clothoid_parameter(curve.radius, curve.exit),
+                governing: governing_of(&curve, road, limits),
+            },
+        }
+    }
+}
+
+// A curve with its sense, in eleven places.
+fn kind(sense: Sense) -> &'static str
+    ensures { result.now ≡ kind_text sense }
+{
+    match sense {
+        Sense::Left => "curve left ",
+        Sense::Right => "curve right",
+    }
+}
+
+// The least length of a place, and the limit that it comes from.
+#[derive(Clone, Copy)]
+struct Governed(Option<Governing>);
+
+impl fmt::Display for Governed {
+    ghost output = { λ governed. Some (governed_text governed.0) };
+
+    fn fmt<W: fmt::Write>(&self, f: &mut fmt::Formatter<W>) -> fmt::Result {
+        let Some(governing) = self.0 else {
+            return f.write_str("         -  -");
+        };
+        let number = governing.number;
+        let name = governing.name;
+        match governing.least {
+            Some(least) => write!(f, "{}  {number} {name}", MetresColumn(least)),
+            None => write!(f, "      none  {number} {name}"),
+        }
+    }
+}
+
+impl fmt::Display for TableRow {
+    ghost output = { λ row. Some (table_row_text row) };
+
+    fn fmt<W: fmt::Write>(&self, f: &mut fmt::Formatter<W>) -> fmt::Result {
+        match self {
+            TableRow::Straight { place, length } => {
+                let length = MetresColumn(*length);
+                write!(f, "{place:>4}  straight   {length}")
+            }
+            TableRow::Curve {
+                place,
+                curve,
+                superelevation,
+                entry,
+                exit,
+                governing,
+            } => {
+                let kind = kind(curve.sense);
+                let radius = MetresColumn(curve.radius);
+                let turn = GonColumn(curve.turn);
+                let p = PercentColumn(*superelevation);
+                let entry_length = MetresColumn(curve.entry);
+                let entry_parameter = MetresColumn(*entry);
+                let exit_length = MetresColumn(curve.exit);
+                let exit_parameter = MetresColumn(*exit);
+                let governed = Governed(*governing);
+                write!(
+                    f,
+                    "{place:>4}  {kind}          {radius}{turn}{p}{entry_length}{entry_parameter}{exit_length}{exit_parameter}{governed}"
+                )
+            }
+        }
+    }
+}

@@ -1,0 +1,135 @@
+// Writing the table of a sheet, and its findings below.
+ghost use Rattle.std.specs.Prelude.{ℕ, List, OnOk, map};
+ghost use Rattle.std.specs.Io.KnownBytes.{Appends};
+ghost use Rattle.rows.specs.Reading.{row_of};
+ghost use Rattle.choice.specs.Governing.{limits_of};
+ghost use Rattle.report.specs.Headings.{numbered_text, limits_heading};
+ghost use Rattle.report.specs.Tables.{as_line, TableOf, heading_text, SheetTable};
+ghost use Rattle.wording.specs.Lines.{explained_text};
+ghost use Rattle.report.specs.Explaining.{LinesOf};
+ghost use Rattle.report.specs.Findings.{finding_line, FindingsBelow};
+
+use crate::explaining::explained;
+use crate::finding_line::FindingLine;
+use crate::heading::{Counted, RoadHeading, SheetHeading};
+use crate::table_row::TableRow;
+use choice::ChosenLimit;
+use choice::in_force::LimitsInForce;
+use findings::finding::Finding;
+use road::road::Road;
+use rows::record::RowRecord;
+use std::io;
+use std::io::Write;
+
+// What is reported: a sheet's road, mark and rows, and the limits in force for it.
+#[derive(Clone, Copy)]
+pub struct Report<'a> {
+    pub road: &'a Road,
+    pub fitted: bool,
+    pub rows: &'a [RowRecord],
+    pub limits: &'a LimitsInForce,
+}
+
+// Limits, numbered from 1.
+fn write_numbered<W: Write>(out: &mut W, limits: &[ChosenLimit]) -> io::Result<()>
+    ensures { OnOk result (Appends (W.contents out.old) (W.contents out.new) (numbered_text 1 limits.now)) }
+{
+    for (at, limit) in limits.iter().enumerate() {
+        let number = at + 1;
+        let name = limit.name();
+        write!(out, " {number} {name}")?;
+    }
+    Ok(())
+}
+
+// The limits in force, one after the other.
+fn write_in_force<W: Write>(out: &mut W, limits: &LimitsInForce) -> io::Result<()>
+    ensures { OnOk result (Appends (W.contents out.old) (W.contents out.new) (numbered_text 1 (limits_of limits.now))) }
+{
+    match limits {
+        LimitsInForce::Compulsory => write!(out, " 1 comfort 2 transition 3 azimuth 4 shift"),
+        LimitsInForce::Named(limits) => write_numbered(out, limits.as_slice()),
+    }
+}
+
+// The line of the limits in force.
+fn write_limits<W: Write>(out: &mut W, limits: &LimitsInForce) -> io::Result<()>
+    ensures { OnOk result (Appends (W.contents out.old) (W.contents out.new) (as_line (limits_heading (limits_of limits.now)))) }
+{
+    write!(out, "limits:")?;
+    write_in_force(out, limits)?;
+    writeln!(out)
+}
+
+impl Report<'_> {
+    // The rows of the table, a line each.
+    fn write_rows<W: Write>(&self, out: &mut W) -> io::Result<()>
+        ensures { OnOk result ((text : List ℕ) × TableOf self.now.road.now self.now.limits.now 0 (map row_of self.now.rows.now) text × Appends (W.contents out.old) (W.contents out.new) text) }
+    {
+        for (place, record) in self.rows.iter().enumerate() {
+            let row = TableRow::of(place, record.read(), self.road, self.limits);
+            writeln!(out, "{row}")?;
+        }
+        Ok(())
+    }
+
+    // What stands above the rows.
+    fn write_heading<W: Write>(&self, out: &mut W) -> io::Result<()>
+        ensures { OnOk result (Appends (W.contents out.old) (W.contents out.new) (heading_text self.now.road.now self.now.fitted (map row_of self.now.rows.now) self.now.limits.now)) }
+    {
+        let sheet = SheetHeading {
+            fitted: self.fitted,
+            count: self.rows.len(),
+        };
+        writeln!(out, "{}", RoadHeading(self.road))?;
+        writeln!(out, "{sheet}")?;
+        write_limits(out, self.limits)?;
+        writeln!(
+            out,
+            "\n row  kind           length    radius      turn         p     entry         A      exit         A     least  governed by\n                          m         m       gon         %         m         m         m         m         m"
+        )
+    }
+
+    // The sheet as a table.
+    pub fn write_table<W: Write>(&self, out: &mut W) -> io::Result<()>
+        ensures { OnOk result ((text : List ℕ) × SheetTable self.now.road.now self.now.fitted (map row_of self.now.rows.now) self.now.limits.now text × Appends (W.contents out.old) (W.contents out.new) text) }
+    {
+        self.write_heading(out)?;
+        self.write_rows(out)?;
+        writeln!(out)
+    }
+
+    // Findings, a line each.
+    fn write_lines<W: Write>(&self, out: &mut W, findings: &[Finding]) -> io::Result<()>
+        ensures { OnOk result ((text : List ℕ) × LinesOf self.now.road.now self.now.limits.now self.now.rows.now finding_line findings.now text × Appends (W.contents out.old) (W.contents out.new) text) }
+    {
+        for finding in findings {
+            let explained = explained(*finding, self.road, self.rows, self.limits);
+            writeln!(out, "{}", FindingLine(explained))?;
+        }
+        Ok(())
+    }
+
+    // Findings as a check answers them, a line each.
+    pub fn write_explained<W: Write>(&self, out: &mut W, findings: &[Finding]) -> io::Result<()>
+        ensures { OnOk result ((text : List ℕ) × LinesOf self.now.road.now self.now.limits.now self.now.rows.now explained_text findings.now text × Appends (W.contents out.old) (W.contents out.new) text) }
+    {
+        for finding in findings {
+            let explained = explained(*finding, self.road, self.rows, self.limits);
+            writeln!(out, "{explained}")?;
+        }
+        Ok(())
+    }
+
+    // What was found.
+    pub fn write_findings<W: Write>(&self, out: &mut W, findings: &[Finding]) -> io::Result<()>
+        ensures { OnOk result ((text : List ℕ) × FindingsBelow self.now.road.now self.now.limits.now self.now.rows.now findings.now text × Appends (W.contents out.old) (W.contents out.new) text) }
+    {
+        let found = Counted {
+            count: findings.len(),
+            what: "finding",
+        };
+        writeln!(out, "{found}")?;
+        self.write_lines(out, findings)
+    }
+}

@@ -1,0 +1,31 @@
+// A road and its rows, read from a file of the program's own commands: `road` first, and then `straight` and `curve`.
+use anyhow::{anyhow, bail};
+use commands::command::{Command, SheetCommand};
+use commands::parse::parse_line;
+use plain::NewRow;
+use road::road::Road;
+use std::fs;
+
+#[derive(Drop)]
+pub(crate) struct Alignment {
+    pub(crate) road: Road,
+    pub(crate) rows: Vec<NewRow>,
+}
+
+pub(crate) fn read_rows(rt: &HostRuntime, file: &str) -> anyhow::Result<Alignment> {
+    let text = fs::read_to_string(rt, file)?;
+    let mut road = None;
+    let mut rows = Vec::new(rt.alloc());
+    for line in text.as_str().lines() {
+        match parse_line(line) {
+            Ok(None) => {}
+            Ok(Some(Command::Road(design))) => road = Some(Road::open(design)?),
+            Ok(Some(Command::Sheet(SheetCommand::Add { row, before: None }))) => rows.push(row)?,
+            _ => bail!("a line is no road and no row to be added at the end"),
+        }
+    }
+    let Some(road) = road else {
+        return Err(anyhow!("the file has no road"));
+    };
+    Ok(Alignment { road, rows })
+}
