@@ -157,3 +157,38 @@ pub fn radii_agree(radius: u64, next: u64) -> bool {
         _ => n >= 700_000,
     }
 }
+
+/// The least and the greatest radius that may follow over a short run, where the rule asks for any.
+pub fn radii_after(radius: u64) -> Option<(u64, Option<u64>)> {
+    let below = |numerator: u64, denominator: u64| Some((numerator - 1) / denominator);
+    match radius {
+        ..50_000 => None,
+        50_000..=450_000 => Some(((50 * radius + 600_600).div_ceil(77), below(127 * radius - 1_152_000, 80))),
+        450_001..=700_000 => {
+            Some(((40 * radius + 22_504_500).div_ceil(135), below(110 * radius - 32_000_000, 25)))
+        }
+        700_001..=1_800_000 => Some(((40 * radius + 22_504_500).div_ceil(135), None)),
+        _ => Some((700_000, None)),
+    }
+}
+
+#[cfg(test)]
+mod tests {
+    use super::*;
+
+    /// The ends of a range are the last radii that agree.
+    #[test]
+    fn ranges_are_the_inequalities() {
+        for radius in
+            (1_000..=2_000_000).step_by(997).chain([50_000, 450_000, 450_001, 700_000, 700_001, 1_800_000])
+        {
+            let Some((low, high)) = radii_after(radius) else {
+                assert!(radius < 50_000);
+                continue;
+            };
+            assert!(radii_agree(radius, low) && !radii_agree(radius, low - 1), "{radius}");
+            let Some(high) = high else { continue };
+            assert!(radii_agree(radius, high) && !radii_agree(radius, high + 1), "{radius}");
+        }
+    }
+}

@@ -3,10 +3,12 @@
 
 pub mod alignment;
 pub mod check;
+pub mod ends;
 pub mod fit;
 pub mod limits;
 pub mod parse;
 pub mod random;
+pub mod report;
 pub mod road;
 pub mod rows;
 pub mod run;
@@ -15,6 +17,7 @@ pub mod session;
 pub mod sheet;
 pub mod superelevation;
 pub mod wide;
+pub mod words;
 
 /// The longest length of a clothoid, in millimetres.
 pub const LONGEST: u64 = 2_000_000;

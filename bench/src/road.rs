@@ -16,6 +16,16 @@ pub enum Group {
     Three,
 }
 
+impl Group {
+    pub fn number(self) -> u64 {
+        match self {
+            Group::One => 1,
+            Group::Two => 2,
+            Group::Three => 3,
+        }
+    }
+}
+
 /// The choice of the change of centrifugal acceleration (Table 4.6).
 #[derive(Clone, Copy, PartialEq, Eq, Debug)]
 pub enum Jerk {
@@ -30,6 +40,7 @@ pub struct Road {
     pub group: Group,
     pub least_radius: u64,
     pub edge: u64,
+    pub lanes: u64,
     pub lane_factor: u64,
     pub jerk: u64,
 }
@@ -53,6 +64,7 @@ impl Road {
             group,
             least_radius,
             edge,
+            lanes,
             lane_factor,
             jerk: acceleration_change(speed, jerk),
         })

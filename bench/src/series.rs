@@ -8,7 +8,7 @@ use crate::limits::{least_length, Entry, Place};
 use crate::random::Random;
 use crate::road::Road;
 use crate::rows::{Curve, Row};
-use crate::session::{Line, Session, MARK};
+use crate::session::{Session, LINE_BYTES, MARK};
 use crate::superelevation::first_radius;
 
 const ROADS: [&str; 15] = [
@@ -40,38 +40,120 @@ const BEYOND: [&str; 5] =
     ["4294967295", "4294967296", "18446744073709551616", "0004294967297", "99999999999999999999999"];
 
 /// Words that are seldom what has to stand in their place.
-const STRANGE: [&str; 24] = [
+const STRANGE: [&str; 30] = [
     "x",
     "-1",
     "+1",
     "1.0",
+    "1,5",
     "1e3",
     "0x10",
+    "Road",
     "before",
     "entry",
     "LEFT",
     "tablé",
     "№7",
     "'",
+    "\"",
+    "a\\b",
+    "'a\"",
     "a#b",
     "#",
     "limit",
     "table",
     "\u{1}",
     "a\u{7f}b",
-    "\u{85}",
-    "\u{a0}",
     "\u{1b}[0m",
     "\u{feff}",
+    "\u{200b}",
+    "\u{202e}x",
     "٣",
     "e\u{301}",
+    "😀",
+];
+
+/// White space that parts words.
+const SPACES: [&str; 12] = [
+    " ", "\t", "\r", "\u{b}", "\u{c}", "\u{85}", "\u{a0}", "\u{1680}", "\u{2003}", "\u{2028}", "\u{3000}",
+    " \t ",
+];
+
+/// Words of the commands, and some numbers.
+const WORDS: [&str; 36] = [
+    "road",
+    "label",
+    "straight",
+    "curve",
+    "remove",
+    "set",
+    "rows",
+    "report",
+    "limit",
+    "check",
+    "fit",
+    "parameter",
+    "reopen",
+    "A",
+    "M",
+    "C",
+    "usual",
+    "top",
+    "left",
+    "right",
+    "before",
+    "entry",
+    "exit",
+    "comfort",
+    "transition",
+    "azimuth",
+    "shift",
+    "fifth",
+    "table",
+    "0",
+    "1",
+    "100",
+    "3500",
+    "1000000",
+    "300000",
+    "20000001",
+];
+
+/// Bytes that are no UTF-8 text.
+const NOT_TEXT: [&[u8]; 8] = [
+    b"\xff",
+    b"\x80",
+    b"\xc0\x80",
+    b"\xe2\x82",
+    b"\xed\xa0\x80",
+    b"\xf4\x90\x80\x80",
+    b"\xf0\x9f\x98",
+    b"\xef\xbb",
+];
+
+/// Files that are no tables of the writer's: absent ones, folders, names that no file can have, and an empty one.
+const OTHER_FILES: [&str; 14] = [
+    "nowhere",
+    "./nowhere",
+    ".",
+    "..",
+    "/",
+    "input/x",
+    "/dev/null",
+    "an-absent-file-with-a-name-of-more-than-forty-bytes",
+    "nowhere\u{1b}\u{7f}",
+    "no\"where'\\",
+    "#",
+    "table",
+    "fifth",
+    "nöwhere\u{9b}",
 ];
 
 /// The series of one input: their lines and the answers that they should get.
 #[derive(Default)]
 pub struct Input {
     pub lines: Vec<Vec<u8>>,
-    pub answers: Vec<Line>,
+    pub answers: Vec<String>,
     /// The lines and the answers before each series.
     pub starts: Vec<(usize, usize)>,
 }
@@ -82,28 +164,42 @@ pub struct Writer {
     pub session: Session,
     pub input: Input,
     fits: bool,
-    /// How many tables have been written.
-    tables: u64,
+    /// What the names of its tables begin with.
+    name: String,
+    /// The tables that have been written.
+    pub files: Vec<String>,
     /// The radii of the last table's entries, with their least lengths.
     classes: Vec<(u64, u64)>,
 }
 
 impl Writer {
-    /// A writer that names its tables by numbers from `tables` on, and fits sheets or not.
-    pub fn new(seed: u64, tables: u64, fits: bool) -> Writer {
-        let (session, input) = (Session::default(), Input::default());
-        Writer { random: Random::new(seed), session, input, fits, tables, classes: Vec::new() }
+    /// A writer whose tables' names begin with this one, for a program that stops at the first line that is
+    /// refused or wrong or not, and that fits sheets or not.
+    pub fn new(seed: u64, name: String, stop: bool, fits: bool) -> Writer {
+        Writer {
+            random: Random::new(seed),
+            session: Session::new(stop),
+            input: Input::default(),
+            fits,
+            name,
+            files: Vec::new(),
+            classes: Vec::new(),
+        }
     }
 
-    pub fn tables(&self) -> u64 {
-        self.tables
+    /// How many series have been added.
+    pub fn count(&self) -> u64 {
+        self.input.starts.len() as u64
     }
 
     /// Adds a series to the input.
     pub fn series(&mut self) -> io::Result<()> {
         self.input.starts.push((self.input.lines.len(), self.input.answers.len()));
         self.classes.clear();
-        let odds = if self.session.open.is_none() { 60 } else { 10 };
+        if self.input.lines.is_empty() {
+            self.front();
+        }
+        let odds = if self.session.open.is_none() && !self.session.stop { 60 } else { 10 };
         while self.random.chance(odds) {
             self.step()?;
         }
@@ -117,13 +213,32 @@ impl Writer {
         Ok(())
     }
 
+    /// Seldom a strange line at the front of the input.
+    fn front(&mut self) {
+        match self.random.within(0, 19) {
+            0 => self.write(&[MARK, MARK, b" rows\n"].concat()),
+            1 => self.write(b"\xef\xbb# a broken mark\n"),
+            2 => self.write(&[MARK, b"# \xff\n"].concat()),
+            3 => self.write(&[MARK, b"rows \xff\n"].concat()),
+            4 => self.write(&[MARK, b"\n"].concat()),
+            5 => {
+                let spaces = self.random.within(LINE_BYTES as u64 - 5, LINE_BYTES as u64 + 1) as usize - 7;
+                self.write(&[MARK, b"rows", &b" ".repeat(spaces)[..], b"\n"].concat());
+            }
+            6 => self.mistaken(),
+            _ => (),
+        }
+    }
+
     /// The input, the last line of which may lack its newline.
     pub fn finish(&mut self) -> Vec<u8> {
-        let mut bytes = self.input.lines.concat();
-        if self.random.chance(50) {
-            bytes.pop();
+        if self.random.chance(30) {
+            self.mistaken();
         }
-        bytes
+        if let Some(last) = self.input.lines.last_mut().filter(|_| self.random.chance(50)) {
+            last.pop();
+        }
+        self.input.lines.concat()
     }
 
     /// Commands of all kinds.
@@ -192,11 +307,17 @@ impl Writer {
     fn close(&mut self) {
         self.say("rows");
         self.say("check");
+        if self.random.chance(30) {
+            self.say("report");
+        }
         if self.fits {
             self.say("fit");
             self.say("check");
             for _ in 0..2 {
                 self.parameter();
+            }
+            if self.random.chance(20) {
+                self.say("report");
             }
             self.say("rows");
         }
@@ -214,8 +335,9 @@ impl Writer {
             64..=66 => self.set_all(),
             67..=70 => self.limit()?,
             71..=72 => self.limit_by_a_table()?,
-            73..=77 => self.say("check"),
-            78..=80 => self.say("rows"),
+            73..=76 => self.say("check"),
+            77..=78 => self.say("report"),
+            79..=80 => self.say("rows"),
             81..=86 => self.label(),
             87..=90 if self.fits => self.say("fit"),
             91..=92 if self.fits => self.parameter(),
@@ -232,6 +354,11 @@ impl Writer {
         match self.random.within(0, 199) {
             0 => self.write(format!("\t {}\r\n", line.replace(' ', " \t ")).as_bytes()),
             1 => self.write(format!("{line} \r\n").as_bytes()),
+            3 => {
+                let spaced: String =
+                    line.split(' ').map(|word| format!("{}{word}", self.random.pick(&SPACES))).collect();
+                self.write(format!("{spaced}\n").as_bytes());
+            }
             2 => {
                 let changed = self.changed(line);
                 self.write(format!("{changed}\n").as_bytes());
@@ -244,7 +371,8 @@ impl Writer {
         if !self.fits && speaks_of_fitting(line) {
             return;
         }
-        let mark = if self.input.lines.is_empty() && self.random.chance(50) { MARK } else { b"" };
+        let first = self.input.lines.is_empty() && !line.starts_with(&MARK[..2]);
+        let mark = if first && self.random.chance(30) { MARK } else { b"" };
         let line = [mark, line].concat();
         self.input.answers.extend(self.session.line(&line));
         self.input.lines.push(line);
@@ -265,47 +393,144 @@ impl Writer {
     }
 
     fn strange(&mut self) -> String {
-        match self.random.within(0, 9) {
+        match self.random.within(0, 11) {
             0 => "wörd".repeat(self.random.within(9, 12) as usize),
             1 => "7".repeat(self.random.within(38, 42) as usize),
             2 => format!("{}\u{2}{}", "x".repeat(self.random.within(37, 40) as usize), "y".repeat(3)),
+            3..=4 => {
+                let control = self.random.within(0, 0x3f) as u8;
+                let control = if control < 0x20 { control } else { control + 0x60 };
+                if control == b'\n' {
+                    return "\\n".into();
+                }
+                format!("{}{}b", self.random.pick(&["", "a", "\""]), char::from(control))
+            }
             _ => self.random.pick(&STRANGE).to_string(),
         }
     }
 
-    /// A line that is no command.
+    /// A line that is no command, or seldom is.
     fn mistaken(&mut self) {
-        let count = self.random.within(0, 62) as usize;
-        let line = match self.random.within(0, 9) {
-            0 => format!("limit{}", " fifth".repeat(count + 1)).into_bytes(),
-            1 => format!("limit{} table nowhere", " shift".repeat(count.max(58))).into_bytes(),
-            2 => format!("rows{}", " ".repeat(16_370 + count)).into_bytes(),
-            3 => format!("# {}", "-".repeat(16_370 + count)).into_bytes(),
-            4 => b"curve left \xff 1".to_vec(),
-            5 => b" \t# a comment \xff\xfe".to_vec(),
-            6 => "straight 1 before 0 é".bytes().take(21 + count % 2).collect(),
+        let line = match self.random.within(0, 19) {
+            0..=2 => self.many_names().into_bytes(),
+            3..=5 => self.long_line(),
+            6..=8 => self.no_text(),
+            9..=11 => self.jumble().into_bytes(),
             _ => {
-                let line = self.random.pick(&[
-                    "road C 100 3500 1 usual",
-                    "label 1000000 300000",
-                    "straight 5",
-                    "straight 5 before 0",
-                    "curve left 1000000 300000",
-                    "curve right 1000000 300000 before 0",
-                    "remove 0",
-                    "set 0 1 1",
-                    "rows",
-                    "limit comfort",
-                    "limit table nowhere fifth",
-                    "fit",
-                    "parameter 0 entry",
-                    "reopen",
-                    "check",
-                ]);
-                self.changed(line).into_bytes()
+                let mut line = self
+                    .random
+                    .pick(&[
+                        "road C 100 3500 1 usual",
+                        "label 1000000 300000",
+                        "straight 5",
+                        "straight 5 before 0",
+                        "curve left 1000000 300000",
+                        "curve right 1000000 300000 before 0",
+                        "remove 0",
+                        "set 0 1 1",
+                        "rows",
+                        "report",
+                        "limit comfort",
+                        "limit table nowhere fifth",
+                        "fit",
+                        "parameter 0 entry",
+                        "reopen",
+                        "check",
+                    ])
+                    .to_string();
+                for _ in 0..self.random.within(1, 3) {
+                    line = self.changed(&line);
+                }
+                line.into_bytes()
             }
         };
         self.write(&[&line[..], b"\n"].concat());
+    }
+
+    /// A `limit` line of up to 70 words.
+    fn many_names(&mut self) -> String {
+        let count =
+            if self.random.chance(70) { self.random.within(60, 70) } else { self.random.within(1, 70) };
+        let mut words = vec!["limit".to_string()];
+        while (words.len() as u64) < count {
+            let word = match self.random.within(0, 39) {
+                0 => self.strange(),
+                1 => "table".into(),
+                2..=3 => {
+                    words.push("table".into());
+                    self.file()
+                }
+                _ => self.random.pick(&NAMES).to_string(),
+            };
+            words.push(word);
+        }
+        words.truncate(count as usize);
+        words.join(" ")
+    }
+
+    /// A line of about as many bytes as one may have, or of more than a block.
+    fn long_line(&mut self) -> Vec<u8> {
+        let front = self.random.pick(&[
+            "rows",
+            "report",
+            "#",
+            "# é",
+            "\u{b}#",
+            "",
+            "x",
+            "limit fifth",
+            "limit table t",
+        ]);
+        let fill: &[u8] = self.random.pick(&[
+            &b" "[..],
+            b" ",
+            b"\t",
+            b"7",
+            "é".as_bytes(),
+            b"\xff",
+            "\u{a0}".as_bytes(),
+            b" x",
+        ]);
+        let most = LINE_BYTES as u64;
+        let length = match self.random.within(0, 9) {
+            0 => self.random.within(65_500, 70_000),
+            1 => self.random.spread(1, 200_000),
+            _ => self.random.within(most - 4, most + 4),
+        } as usize;
+        let mut line = front.as_bytes().to_vec();
+        while line.len() + fill.len() <= length {
+            line.extend(fill);
+        }
+        line.resize(length, b' ');
+        if self.random.chance(30) {
+            line.pop();
+            line.push(b'\r');
+        }
+        line
+    }
+
+    /// A line that is not UTF-8 text, which may be a comment.
+    fn no_text(&mut self) -> Vec<u8> {
+        let front =
+            self.random.pick(&["", "", " ", "\t\r", "\u{c} ", "\u{b}", "\u{a0}", "\u{85}", "\u{feff}"]);
+        let words =
+            self.random.pick(&["#", "# é", "", "rows ", "limit table é", "straight 1 before 0 ", "x #"]);
+        let no_text = self.random.pick(&NOT_TEXT);
+        let rest = self.random.pick(&["", " 1", "#", "é"]);
+        [front.as_bytes(), words.as_bytes(), no_text, rest.as_bytes()].concat()
+    }
+
+    /// Words of the commands in any order.
+    fn jumble(&mut self) -> String {
+        let count = self.random.within(1, 8);
+        let word = |writer: &mut Writer| {
+            if writer.random.chance(10) {
+                writer.strange()
+            } else {
+                writer.random.pick(&WORDS).to_string()
+            }
+        };
+        (0..count).map(|_| word(self)).collect::<Vec<_>>().join(" ")
     }
 
     fn passed_over(&mut self) {
@@ -607,31 +832,48 @@ impl Writer {
             words += " ";
             words += self.random.pick(&NAMES);
             if self.random.chance(10) {
-                words += " table ";
-                words += self.random.pick(&[
-                    "nowhere",
-                    ".",
-                    "an-absent-file-with-a-name-of-more-than-forty-bytes",
-                ]);
+                words += &format!(" table {}", self.file());
             }
         }
         self.say(&words);
         Ok(())
     }
 
+    /// A file's name, of a table or of none.
+    fn file(&mut self) -> String {
+        match self.random.within(0, 29) {
+            0..=9 if !self.files.is_empty() => {
+                let place = self.random.within(0, self.files.len() as u64 - 1) as usize;
+                self.files[place].clone()
+            }
+            10 => "n".repeat(self.random.within(254, 257) as usize),
+            11 => "o/".repeat(self.random.within(2_040, 2_050) as usize),
+            12 => self.strange(),
+            _ => self.random.pick(&OTHER_FILES).to_string(),
+        }
+    }
+
     /// Writes a table, and puts it in force, alone or with other limits.
     fn limit_by_a_table(&mut self) -> io::Result<()> {
-        let name = format!("t{}", self.tables);
-        self.tables += 1;
+        let tail = if self.random.chance(20) {
+            self.random.pick(&["\"", "'", "\\", "\u{1b}", "é", "#", "\u{7f}\u{84}", ".table"])
+        } else {
+            ""
+        };
+        let name = format!("{}-{}{tail}", self.name, self.files.len());
         let table = self.table();
         fs::write(&name, table)?;
         let mut words = format!("limit table {name}");
-        if self.tables > 1 && self.random.chance(10) {
-            words += &format!(" table t{}", self.tables - 2);
+        if self.random.chance(10) {
+            words += &format!(" table {}", self.file());
         }
+        self.files.push(name);
         if self.random.chance(20) {
             words += " ";
             words += self.random.pick(&NAMES);
+        }
+        if self.random.chance(10) {
+            words += &format!(" table {}", self.file());
         }
         self.say(&words);
         Ok(())

@@ -7,8 +7,8 @@ use std::process::ExitCode;
 use second::limits::{Entry, Limit, Table};
 use second::road::{Class, Group, Jerk, Road};
 use second::rows::{Curve, Row, Sense};
-use second::run::{first_difference, Program};
-use second::session::{Line, Session};
+use second::run::{first_difference, By, Program, Start};
+use second::session::Session;
 use second::sheet::{Refusal, Sheet};
 
 const USAGE: &str = "enumerate [--second-only] [PROGRAM]";
@@ -118,23 +118,25 @@ impl Family {
             "{}, {}: {sheets} sheets agree with the search, {unfit} of them with no fit",
             self.name, self.road
         );
-        program.map_or(Ok(true), |program| self.program_agrees(program, &lines, &answers))
+        program.map_or(Ok(true), |program| self.program_agrees(program, &lines, &answers, &session))
     }
 
     fn program_agrees(
         &self,
         program: &Program,
         lines: &[Vec<u8>],
-        answers: &[Line],
+        answers: &[String],
+        session: &Session,
     ) -> Result<bool, Box<dyn Error>> {
-        let printed = program.run(&lines.concat(), true)?;
-        let Some(difference) = first_difference(answers, &printed, 0) else {
+        let start = Start { stop: false, by: By::Name { option_behind: false } };
+        let printed = program.run(&lines.concat(), start)?;
+        let Some(difference) = first_difference(answers, &printed, session) else {
             println!("{}, {}: the program agrees", self.name, self.road);
             return Ok(true);
         };
         println!("the program differs in line {} of its answers", difference.place + 1);
-        println!("expected: {}", difference.expected.as_ref().map_or("the end", |line| line.text()));
-        println!("printed:  {}", difference.printed.as_deref().unwrap_or("the end"));
+        println!("expected: {}", difference.expected);
+        println!("printed:  {}", difference.printed);
         println!("the input and its table are in {}", program.folder().display());
         Ok(false)
     }

@@ -3,5 +3,7 @@
 
 pub mod answer;
 pub mod failure;
+pub mod refused;
 pub mod set_out;
 pub mod shown_row;
+pub mod verdict;

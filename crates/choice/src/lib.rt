@@ -46,9 +46,7 @@ impl ChosenLimit {
             ChosenLimit::Azimuth => Other(One(One(AzimuthLimit))),
             ChosenLimit::Shift => Other(One(Other(ShiftLimit))),
             ChosenLimit::FifthOfTurn => Other(Other(One(FifthOfTurnLimit))),
-            ChosenLimit::Table(bytes) => Other(Other(Other(ClientTable {
-                bytes: bytes.as_slice(),
-            }))),
+            ChosenLimit::Table(bytes) => { Other(Other(Other(ClientTable::of(bytes.as_slice())))) }
         }
     }
 }

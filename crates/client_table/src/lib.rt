@@ -1,4 +1,4 @@
-// A client's table of least lengths, a limit read in the bytes that its file was loaded into.
+// A client's table of least lengths, a limit whose entries are read in the memory that their file was loaded into.
 #![tactic(auto)]
 
 pub mod entry;

@@ -1,26 +1,34 @@
 // The table as a limit.
-ghost use Rattle.std.specs.Prelude.{◌+◌, ◌*◌, ◌≤◌, ◌≡◌, ℕ, length as count};
+ghost use Rattle.std.specs.Prelude.{◌≡◌};
 ghost use Rattle.limits.specs.Least.{Smallest};
-ghost use Rattle.client_table.specs.Tables.{entry_at, Allows, table, ByEntries};
+ghost use Rattle.client_table.specs.Tables.{whole_entries, WholeEntries, EachAllows, table, ByEntries};
 ghost use Rattle.client_table.specs.Lawful.{table_lawful};
 
 use crate::entry::Entry;
 use limits::limit::{LONGEST, Limit};
 use limits::place::Place;
 
-// The bytes of the client's file; they are borrowed and never copied. A last entry cut short does not count.
+// The entries of the client's file, in the memory that it was loaded into; they are borrowed and never copied.
 #[derive(Clone, Copy)]
 pub struct ClientTable<'a> {
-    pub bytes: &'a [u8],
+    pub entries: &'a [[u8; Entry::BYTES]],
 }
 
-impl ClientTable<'_> {
+impl<'a> ClientTable<'a> {
+    // The table of a file's bytes. A last entry cut short does not count.
+    pub fn of(bytes: &'a [u8]) -> ClientTable<'a>
+        ensures value { result.entries.now ≡ whole_entries bytes.now }
+        ensures places { WholeEntries bytes.now result.entries.now }
+    {
+        let (entries, _cut_short) = bytes.as_chunks();
+        ClientTable { entries }
+    }
+
     // The least length that every entry lets a curve of that radius have: the largest that an entry wants.
     fn wanted(&self, radius: u32) -> u32
-        ensures { Smallest (λ length. (index : ℕ) → 12 * index + 12 ≤ count self.now.bytes.now → Allows (entry_at self.now.bytes.now index) radius length) result }
+        ensures { Smallest (EachAllows self.now.entries.now radius) result }
     {
-        let (entries, _cut_short) = self.bytes.as_chunks::<{ Entry::BYTES }>();
-        entries
+        self.entries
             .iter()
             .map(|entry| Entry::read(entry).wanted(radius))
             .max()
@@ -29,17 +37,17 @@ impl ClientTable<'_> {
 }
 
 impl Limit for ClientTable<'_> {
-    ghost admitted = { λ client place. table client.bytes.now place };
+    ghost admitted = { λ client place. table client.entries.now place };
 
-    ghost lawful = { λ client place. table_lawful client.bytes.now place };
+    ghost lawful = { λ client place. table_lawful client.entries.now place };
 
     fn admits(&self, place: &Place, length: u32) -> bool
-        ensures set { result ≡ table self.now.bytes.now place.now length }
-        ensures entries { ByEntries self.now.bytes.now place.now length result }
+        ensures set { result ≡ table self.now.entries.now place.now length }
+        ensures entries { ByEntries self.now.entries.now place.now length result }
     {
-        let (entries, _cut_short) = self.bytes.as_chunks::<{ Entry::BYTES }>();
         length <= LONGEST
-            && entries
+            && self
+                .entries
                 .iter()
                 .all(|entry| Entry::read(entry).allows(place.radius, length))
     }

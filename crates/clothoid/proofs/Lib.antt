@@ -1,1 +1,1 @@
-pub mod Splits
+pub mod Reading

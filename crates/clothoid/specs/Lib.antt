@@ -1,1 +1,1 @@
-pub mod Chunks
+pub mod Ending

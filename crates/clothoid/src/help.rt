@@ -1,7 +1,8 @@
 // What the program says of itself.
-pub const USAGE: &str = "usage: clothoid [FILE]";
+pub const USAGE: &str = "usage: clothoid [--stop] [FILE]";
 
 pub const HELP: &str = "Answers the commands of FILE, or of standard input, a line each.
+With --stop it ends at the first line that is refused or wrong, after its answer.
 Lengths and radii are in mm, turns in ten-thousandths of a gon, speeds in km/h.
 Rows are counted from 0.
 
@@ -104,10 +105,13 @@ Rows are counted from 0.
       0 findings
 
 Numbers are digits only. Blank lines and lines that begin with # are skipped.
-A command whose operands are refused answers 'refused NUMBER ROW: ' and the reason,
-and changes nothing. A line that is no command, or is longer than 16384 bytes, or
-speaks of a road before there is any, or names a file that cannot be read, or is a
-command that a fitted sheet or a draft does not have, answers 'error LINE: ' and what
-is wrong with it; the other lines are still answered, and the program then ends with
-status 1.
+A command whose operands are refused answers 'refused NUMBER ROW: ' with the reason,
+the value that was refused and the line. A line that is no command, or is longer than
+16384 bytes, or speaks of a road before there is any, or names a file that cannot be
+read, or is a command that a fitted sheet or a draft does not have, is wrong, and
+answers 'error LINE: ' and what is wrong with it. Neither changes anything, and the
+lines behind it are still answered, unless --stop is given. At the end standard error
+has how many lines were wrong and how many were refused, with the first of each.
+The status is 0 where no line was wrong or refused; 1 where a line or an argument was
+wrong, or reading or writing failed; 2 where lines were refused and none was wrong.
 ";

@@ -1,62 +1,137 @@
 // Answers commands on roads, a line each, from a file or from standard input.
 #![tactic(auto)]
 
-ghost use Rattle.std.specs.Prelude.{◌≡◌, is_ok, Decides};
+ghost use Rattle.std.specs.Prelude.{◌≡◌, ◌⊎◌, List, ℕ, IfOk, IfSome, OnOk, MatchResult};
+ghost use Rattle.std.specs.Io.KnownBytes.{Appends};
+ghost use Rattle.std.specs.Process.{exit_status};
+ghost use Rattle.session.specs.declared.faults.Faults.{Faults};
+ghost use Rattle.session.specs.Faults.{status_of};
+ghost use Rattle.session.specs.Reading.{InputAnswered};
+ghost use Rattle.clothoid.specs.Ending.{said_of};
 
-use anyhow::anyhow;
-use std::alloc::Global;
+use session::faults::Faults;
+use std::fmt::Display;
+use std::io::{BufWriter, ErrorKind, Read, Write};
 use std::process::ExitCode;
-use std::{env, fs};
+use std::{env, fs, io};
+use text::shown::Shown;
 
 mod help;
-mod reader;
+pub mod reader;
 
 use help::{HELP, USAGE};
-use reader::answer_all;
+use reader::{Failed, answer_all};
 
-// An error where lines are wrong.
-fn verdict(heap: Global, wrong: u64) -> anyhow::Result<()>
-    ensures { Decides (is_ok result) (wrong ≡ 0) }
+// Says on standard error why the program ends.
+fn fail<D: Display + Drop>(rt: &HostRuntime, why: D) -> ExitCode
+    ensures { exit_status result ≡ 1 }
 {
-    match wrong {
-        0 => Ok(()),
-        1 => Err(anyhow!("1 line is wrong")),
-        _ => Err(anyhow!(format!(in heap; "{wrong} lines are wrong")?)),
+    // nothing is left to do where not even this can be said
+    let _ = eprintln!(rt; "clothoid: {why}");
+    ExitCode::from(1)
+}
+
+// Says how many lines were wrong or refused, where any were.
+fn write_faults<W: Write>(err: &mut W, faults: Faults) -> io::Result<()>
+    ensures { OnOk result (Appends (W.contents err.old) (W.contents err.new) (said_of faults)) }
+{
+    if faults.any() {
+        writeln!(err, "clothoid: {faults}")?;
+    }
+    Ok(())
+}
+
+// The exit status, once an input is answered or not; a reader of the answers that goes away is no news to whoever stopped it.
+fn end(rt: &HostRuntime, name: &str, answered: Result<Faults, Failed>) -> ExitCode
+    ensures { MatchResult answered (λ faults. exit_status result ≡ status_of faults) (λ _. exit_status result ≡ 1) }
+{
+    match answered {
+        Ok(faults) => {
+            let _ = write_faults(&mut rt.stderr(), faults);
+            faults.status()
+        }
+        Err(Failed::Reading(why)) => {
+            let name = Shown(name);
+            fail(rt, format_args!("cannot read \"{name}\": {why}"))
+        }
+        Err(Failed::Writing(why)) => {
+            if why.kind() == ErrorKind::BrokenPipe {
+                return ExitCode::from(1);
+            }
+            fail(rt, why)
+        }
     }
 }
 
-fn answer_file(rt: &HostRuntime, name: &str) -> anyhow::Result<()> {
-    let heap = rt.alloc();
+// Answers an input on an output.
+fn answer<R: Read, W: Write + Drop>(
+    rt: &HostRuntime,
+    stop: bool,
+    input: &mut R,
+    out: W,
+) -> Result<Faults, Failed>
+    ensures { IfOk result (λ faults. IfSome (R.remaining input.old) (λ bytes. (text : List ℕ) × InputAnswered stop bytes text faults)) }
+{
+    let mut out = BufWriter::new(rt.alloc(), out)?;
+    answer_all(rt, stop, input, &mut out)
+}
+
+// Answers an input of that name on standard output, and tells the exit status.
+fn answer_input<R: Read>(rt: &HostRuntime, stop: bool, name: &str, input: &mut R) -> ExitCode
+    ensures { (exit_status result ≡ 1) ⊎ IfSome (R.remaining input.old) (λ bytes. (text : List ℕ) × (faults : Faults) × InputAnswered stop bytes text faults × (exit_status result ≡ status_of faults)) }
+{
+    let answered = answer(rt, stop, input, rt.stdout());
+    end(rt, name, answered)
+}
+
+// Answers a file.
+fn answer_file(rt: &HostRuntime, stop: bool, name: &str) -> ExitCode {
     match fs::open(rt, name) {
-        Ok(file) => verdict(heap, answer_all(rt, file, name)?),
-        Err(e) => Err(anyhow!(format!(in heap; "cannot open {name:?}: {e}")?)),
+        Ok(mut file) => answer_input(rt, stop, name, &mut file),
+        Err(why) => {
+            let name = Shown(name);
+            fail(rt, format_args!("cannot open \"{name}\": {why}"))
+        }
     }
 }
 
-fn run(rt: &HostRuntime) -> anyhow::Result<()> {
+// Prints the commands.
+fn print_help(rt: &HostRuntime) -> ExitCode {
+    match print!(rt; "{USAGE}\n\n{HELP}") {
+        Ok(()) => ExitCode::from(0),
+        Err(why) => end(rt, "", Err(Failed::Writing(why))),
+    }
+}
+
+// Does what the arguments ask.
+fn run(rt: &HostRuntime) -> io::Result<ExitCode> {
     let mut args = env::args(rt)?;
     let _ = args.next();
-    let Some(word) = args.next() else {
-        return verdict(rt.alloc(), answer_all(rt, rt.stdin(), "standard input")?);
-    };
-    if args.next().is_some() {
-        return Err(anyhow!(format!(in rt.alloc(); "more than one argument; {USAGE}")?));
+    let mut stop = false;
+    let mut file = None;
+    for word in args {
+        match word.as_str() {
+            "--help" | "-h" => return Ok(print_help(rt)),
+            "--stop" => stop = true,
+            option if option.starts_with('-') => {
+                let option = Shown(option);
+                return Ok(fail(rt, format_args!("unknown option \"{option}\"; {USAGE}")));
+            }
+            _ if file.is_some() => {
+                return Ok(fail(rt, format_args!("more than one file; {USAGE}")));
+            }
+            _ => file = Some(word),
+        }
     }
-    if word.as_str() == "--help" || word.as_str() == "-h" {
-        print!(rt; "{USAGE}\n\n{HELP}")?;
-        return Ok(());
-    }
-    if word.as_str().starts_with('-') {
-        let option = word.as_str();
-        return Err(anyhow!(format!(in rt.alloc(); "unknown option {option:?}; {USAGE}")?));
-    }
-    answer_file(rt, word.as_str())
+    Ok(match file {
+        Some(name) => answer_file(rt, stop, name.as_str()),
+        None => answer_input(rt, stop, "standard input", &mut rt.stdin()),
+    })
 }
 
 fn main(rt: HostRuntime) -> ExitCode {
-    if let Err(e) = run(&rt) {
-        let _ = eprintln!(rt; "clothoid: {e}");
-        return ExitCode::FAILURE;
+    match run(&rt) {
+        Ok(status) => status,
+        Err(why) => fail(&rt, why),
     }
-    ExitCode::SUCCESS
 }

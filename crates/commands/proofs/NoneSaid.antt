@@ -18,7 +18,7 @@ use Rattle.commands.specs.declared.mistake.ParseError.{ParseError}
 use Rattle.commands.specs.Words.{none, word}
 use Rattle.limit_names.specs.Names.{ALimit}
 use Rattle.commands.specs.Names.{name_word, name_of, Names}
-use Rattle.commands.specs.Mistakes.{Blames, Wanted, MayEnd, Wrong, LimitAt, StandsAt, Expects}
+use Rattle.commands.specs.Mistakes.{Blames, Wanted, MayEnd, Wrong, In, LimitAt, StandsAt, Expects}
 use Rattle.commands.specs.Said.{Operands, Says}
 use Rattle.commands.proofs.NameSteps.{left_over, after_first}
 
@@ -38,8 +38,8 @@ right_at ws (y ∷ ys) i zero x all is =
     subst (λ j. Right ws x j) {x = i} {y = i + 0} (omega arith) (subst (λ z. Right ws z i) same all.0)
 right_at ws (y ∷ ys) i (suc k) x all is = subst (λ j. Right ws x j) {x = (i + 1) + k} {y = i + suc k} (omega arith) (right_at ws ys (i + 1) k x all.1 is)
 
-right_in : (ws : List (Bor (List ℕ))) (xs : List Expected) (at : ℕ) (x : Expected) → 1 < at → AllRight ws xs 1 → slice_get xs (at - 2) ≡ Some x → Right ws x (at - 1)
-right_in ws xs at x some all is = subst (λ j. Right ws x j) {x = 1 + (at - 2)} {y = at - 1} (omega arith) (right_at ws xs 1 (at - 2) x all is)
+right_in : (ws : List (Bor (List ℕ))) (xs : List Expected) (at : ℕ) (x : Expected) → 1 < at → AllRight ws xs 1 → In xs ws at x → Right ws x (at - 1)
+right_in ws xs at x some all stands = subst (λ j. Right ws x j) {x = 1 + (at - 2)} {y = at - 1} (omega arith) (right_at ws xs 1 (at - 2) x all stands.0)
 
 -- a word, and the line does not end there
 here : (ws : List (Bor (List ℕ))) (i : ℕ) (x : Expected) → Wanted x (word ws i) → (length ws ≡ i → ⊥) → Right ws x i
@@ -71,14 +71,14 @@ names_from ws i k next within before all =
 
 right_limit : (ws : List (Bor (List ℕ))) (at : ℕ) (x : Expected) → 1 < length ws → length ws < 64 → Names (drop 1 ws) → 1 < at → LimitAt ws at x → Right ws x (at - 1)
 right_limit ws at want.LimitName some few names beyond stands = (
-  λ within. first_name (get_or ws (at - 1) none) _ (names_from ws (at - 1) (at - 2) (omega arith) within stands.0 names),
-  λ ends. absurd (elim stands.1 [ inl e ↦ omega arith | inr e ↦ omega arith ]),
+  λ within. first_name (get_or ws (at - 1) none) _ (names_from ws (at - 1) (at - 2) (omega arith) within stands.1 names),
+  λ ends. absurd (elim stands.2 [ inl e ↦ omega arith | inr e ↦ omega arith ]),
 )
 right_limit ws at want.FileName some few names beyond stands = (
   λ within. tt,
   λ ends.
       let last : drop (((at - 1) - 2) + 1) (drop 1 ws) ≡ [] = drop_all (((at - 1) - 2) + 1) (drop 1 ws) (simp length-drop (omega arith)) in
-      last_name (get_or ws (at - 2) none) _ last (names_from ws (at - 2) ((at - 1) - 2) (omega arith) (omega arith) stands.1 names) stands.2,
+      last_name (get_or ws (at - 2) none) _ last (names_from ws (at - 2) ((at - 1) - 2) (omega arith) (omega arith) stands.2 names) stands.3,
 )
 right_limit ws at want.EndOfLine some few names beyond stands = (λ within. omega arith, λ ends. tt)
 right_limit ws at x some few names beyond stands = absurd stands

@@ -2,7 +2,8 @@
 use Rattle.std.proofs.Common.{◌≡◌, ℕ, ◌<◌, ◌≤◌, true, false, List, ◌++◌, length, take, codes, nat_lt, append-nil, sym, rules, tests}
 use Rattle.std.specs.List.{flat_map}
 use Rattle.std.specs.Str.{chars}
-use Rattle.commands.specs.Shown.{shown_char, shown_word}
+use Rattle.text.specs.Shown.{shown_char}
+use Rattle.commands.specs.Shown.{shown_word}
 
 pub shown_front : (word cs : List ℕ) → cs ≡ take 40 (chars word) → 40 < length (chars word) → flat_map shown_char cs ++ codes ".." ≡ shown_word word
 shown_front word cs front long =

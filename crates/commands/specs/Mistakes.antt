@@ -46,42 +46,56 @@ abbrev pub Wrong : List (Bor (List ℕ)) → ParseError → Type 0
 Wrong ws e =
     (e.at ≤ length ws → Wanted e.expected (word ws (e.at - 1)) → ⊥) × (e.at ≡ length ws + 1 → MayEnd e.expected → ⊥)
 
--- x is the one of the list that stands at the place, where the first stands at the second place of a line
-abbrev pub In : List Expected → ℕ → Expected → Type 0
-In xs at x = slice_get xs (at - 2) ≡ Some x
+-- the words from place i on, counted from 0, are what the list has
+abbrev pub AllWanted : List Expected → List (Bor (List ℕ)) → ℕ → Type 0
+AllWanted [] ws i = Unit {0}
+AllWanted (x ∷ xs) ws i = Wanted x (word ws i) × AllWanted xs ws (i + 1)
 
--- what stands at a place after place i, where the words may be `before N`
-abbrev pub BeforeAt : ℕ → ℕ → Expected → Type 0
-BeforeAt i at x = ((at ≡ i + 1) × (x ≡ want.Before)) ⊎ ((at ≡ i + 2) × (x ≡ want.Number)) ⊎ ((at ≡ i + 3) × (x ≡ want.EndOfLine))
+-- the words after the first and before the place are what the list has, so that no word before the place is wrong
+abbrev pub RightBefore : List Expected → List (Bor (List ℕ)) → ℕ → Type 0
+RightBefore xs ws at = AllWanted (take (at - 2) xs) ws 1
+
+-- x is the one of the list that stands at the place, where the first stands at the second place of a line, and the words before are right
+abbrev pub In : List Expected → List (Bor (List ℕ)) → ℕ → Expected → Type 0
+In xs ws at x = (slice_get xs (at - 2) ≡ Some x) × RightBefore xs ws at
+
+-- what stands at a place after place i, where the words may be `before N`, and those of them before the place are right
+abbrev pub BeforeAt : List (Bor (List ℕ)) → ℕ → ℕ → Expected → Type 0
+BeforeAt ws i at x =
+    ((at ≡ i + 1) × (x ≡ want.Before))
+    ⊎ ((at ≡ i + 2) × (x ≡ want.Number) × Wanted want.Before (word ws i))
+    ⊎ ((at ≡ i + 3) × (x ≡ want.EndOfLine) × Wanted want.Before (word ws i) × Wanted want.Number (word ws (i + 1)))
 
 -- the words after the first and before the place are names of limits
 abbrev pub NamesBefore : List (Bor (List ℕ)) → ℕ → Type 0
 NamesBefore ws at = Names (take (at - 2) (drop 1 ws))
 
--- what stands at a place of a `limit` line, where a line of 64 words may have been cut
+-- what stands at a place of a `limit` line, where the words before the place are right; but a line of 64 words or more may have been cut, and is wrong
+-- at word 64 whatever stands before
 abbrev pub LimitAt : List (Bor (List ℕ)) → ℕ → Expected → Type 0
-LimitAt ws at want.LimitName = NamesBefore ws at × ((at ≡ 2) ⊎ (at ≤ length ws))
-LimitAt ws at want.FileName = (2 < at) × NamesBefore ws (at - 1) × (word ws (at - 2) ≡ codes "table")
+LimitAt ws at want.LimitName = (length ws < 64) × NamesBefore ws at × ((at ≡ 2) ⊎ (at ≤ length ws))
+LimitAt ws at want.FileName = (length ws < 64) × (2 < at) × NamesBefore ws (at - 1) × (word ws (at - 2) ≡ codes "table")
 LimitAt ws at want.EndOfLine = at ≡ 64
 LimitAt ws at x = ⊥
 
--- what stands at a place of a command's line, counted from 1
+-- what stands at a place of a command's line, counted from 1, where the words before the place are right
 abbrev pub StandsAt : Name → List (Bor (List ℕ)) → ℕ → Expected → Type 0
-StandsAt Road ws = In (want.Class ∷ want.Number ∷ want.Number ∷ want.Number ∷ want.JerkChoice ∷ want.EndOfLine ∷ [])
-StandsAt Label ws = In (want.Number ∷ want.Number ∷ want.EndOfLine ∷ [])
-StandsAt Straight ws = In (want.Number ∷ want.Before ∷ want.Number ∷ want.EndOfLine ∷ [])
-StandsAt Curve ws = In (want.Sense ∷ want.Number ∷ want.Number ∷ want.Before ∷ want.Number ∷ want.EndOfLine ∷ [])
-StandsAt Remove ws = In (want.Number ∷ want.EndOfLine ∷ [])
-StandsAt Set ws = In (want.Number ∷ want.Number ∷ want.Number ∷ want.EndOfLine ∷ [])
-StandsAt Rows ws = In (want.EndOfLine ∷ [])
-StandsAt Report ws = In (want.EndOfLine ∷ [])
-StandsAt Check ws = In (want.EndOfLine ∷ [])
-StandsAt Fit ws = In (want.EndOfLine ∷ [])
-StandsAt Parameter ws = In (want.Number ∷ want.End ∷ want.EndOfLine ∷ [])
-StandsAt Reopen ws = In (want.EndOfLine ∷ [])
+StandsAt Road ws = In (want.Class ∷ want.Number ∷ want.Number ∷ want.Number ∷ want.JerkChoice ∷ want.EndOfLine ∷ []) ws
+StandsAt Label ws = In (want.Number ∷ want.Number ∷ want.EndOfLine ∷ []) ws
+StandsAt Straight ws = In (want.Number ∷ want.Before ∷ want.Number ∷ want.EndOfLine ∷ []) ws
+StandsAt Curve ws = In (want.Sense ∷ want.Number ∷ want.Number ∷ want.Before ∷ want.Number ∷ want.EndOfLine ∷ []) ws
+StandsAt Remove ws = In (want.Number ∷ want.EndOfLine ∷ []) ws
+StandsAt Set ws = In (want.Number ∷ want.Number ∷ want.Number ∷ want.EndOfLine ∷ []) ws
+StandsAt Rows ws = In (want.EndOfLine ∷ []) ws
+StandsAt Report ws = In (want.EndOfLine ∷ []) ws
+StandsAt Check ws = In (want.EndOfLine ∷ []) ws
+StandsAt Fit ws = In (want.EndOfLine ∷ []) ws
+StandsAt Parameter ws = In (want.Number ∷ want.End ∷ want.EndOfLine ∷ []) ws
+StandsAt Reopen ws = In (want.EndOfLine ∷ []) ws
 StandsAt Limit ws = LimitAt ws
 
--- the error says what should have stood at its place: a command's name, or what the command that is named has there
+-- the error says what should have stood at its place: a command's name, or what the command that is named has there after words that are right,
+-- so that of several wrong words it names the first
 abbrev pub Expects : List (Bor (List ℕ)) → ParseError → Type 0
 Expects ws e =
     ((e.at ≡ 1) × (e.expected ≡ want.Command))

@@ -1,11 +1,10 @@
 -- How mistakes are shown.
 use Rattle.std.specs.Prelude.{ℕ, cond, List, [], ◌++◌, length, take, Some, None, codes, Option, nat_lt}
-use Rattle.std.specs.Char.{is_control, encode_utf8}
-use Rattle.std.specs.Char.Escape.{escape_default}
 use Rattle.std.specs.List.{flat_map}
-use Rattle.std.specs.Str.{chars, encode_utf8_all}
+use Rattle.std.specs.Str.{chars}
 use Rattle.std.specs.Borrow.{Bor}
 use Rattle.std.specs.Fmt.{decimal}
+use Rattle.text.specs.Shown.{shown_char}
 use Rattle.commands.specs.declared.mistake.Expected.{Expected}
 use Rattle.commands.specs.declared.mistake.Expected.TheVariants.{Command, Class, Number, JerkChoice, Sense, End, Before, LimitName, FileName, EndOfLine}
 
@@ -21,10 +20,6 @@ expected_text Before = codes "before, or the end of the line"
 expected_text LimitName = codes "a limit: comfort, transition, azimuth, shift, fifth or table FILE"
 expected_text FileName = codes "the name of a file"
 expected_text EndOfLine = codes "the end of the line"
-
--- a character as it is shown: a control character as its escape
-abbrev pub shown_char : ℕ → List ℕ
-shown_char c = cond (is_control c) (encode_utf8_all (escape_default c)) (encode_utf8 c)
 
 -- a word as it is shown, or the first 40 characters of a longer one and two dots
 abbrev pub shown_word : List ℕ → List ℕ

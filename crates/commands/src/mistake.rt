@@ -1,10 +1,11 @@
 // Why a line is no command, and how that is shown.
 ghost use Rattle.std.specs.Prelude.{Some};
 ghost use Rattle.std.specs.Fmt.{WritesOnOk};
-ghost use Rattle.commands.specs.Shown.{expected_text, mistake_text, shown_char, shown_word};
+ghost use Rattle.commands.specs.Shown.{expected_text, mistake_text, shown_word};
 
 use std::error::Error;
-use std::fmt;
+use std::fmt::{self, Display};
+use text::shown::ShownChar;
 
 // What should have stood where the wrong word stands.
 #[derive(Clone, Copy, PartialEq, Eq, Debug)]
@@ -67,19 +68,6 @@ impl fmt::Display for ParseError<'_> {
 
 impl Error for ParseError<'_> {}
 
-// Shows a character; a control character as an escape, char by char: that an escape as a whole is so shown was tried, and not proved.
-fn write_shown<W: fmt::Write>(f: &mut fmt::Formatter<W>, c: char) -> fmt::Result
-    ensures { WritesOnOk W.write_str_gives f.old result (shown_char c) f.new }
-{
-    if c.is_control() {
-        for e in c.escape_default() {
-            f.write_char(e)?;
-        }
-        return Ok(());
-    }
-    f.write_char(c)
-}
-
 // The most characters of a word that a message shows.
 const MOST_SHOWN: usize = 40;
 
@@ -88,7 +76,7 @@ fn write_short<W: fmt::Write>(f: &mut fmt::Formatter<W>, word: &str) -> fmt::Res
     ensures { WritesOnOk W.write_str_gives f.old result (shown_word word.now) f.new }
 {
     for c in word.chars().take(MOST_SHOWN) {
-        write_shown(f, c)?;
+        ShownChar(c).fmt(f)?;
     }
     if word.chars().count() > MOST_SHOWN {
         f.write_str("..")?;

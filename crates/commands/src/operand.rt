@@ -25,6 +25,9 @@ pub(crate) trait Operand: Sized {
     // what a word that says one is called
     ghost expects: { Expected };
 
+    // a word that says one is what is expected
+    ghost right: { (w : List ℕ) (x : Self) → says w x → Wanted expects w };
+
     // the line may not end where one is expected
     ghost needed: { MayEnd expects → ⊥ };
 
@@ -41,6 +44,8 @@ impl Operand for u32 {
 
     ghost expects = { want.Number };
 
+    ghost right = { λ w n said. said.0 };
+
     ghost needed = { λ ends. ends };
 
     fn expected() -> Expected {
@@ -56,6 +61,8 @@ impl Operand for Class {
     ghost says = { λ w class. w ≡ class_word class };
 
     ghost expects = { want.Class };
+
+    ghost right = { λ w class said. (class, said) };
 
     ghost needed = { λ ends. ends };
 
@@ -78,6 +85,8 @@ impl Operand for JerkChoice {
 
     ghost expects = { want.JerkChoice };
 
+    ghost right = { λ w choice said. (choice, said) };
+
     ghost needed = { λ ends. ends };
 
     fn expected() -> Expected {
@@ -97,6 +106,8 @@ impl Operand for Sense {
     ghost says = { λ w sense. w ≡ sense_word sense };
 
     ghost expects = { want.Sense };
+
+    ghost right = { λ w sense said. (sense, said) };
 
     ghost needed = { λ ends. ends };
 
@@ -118,6 +129,8 @@ impl Operand for End {
 
     ghost expects = { want.End };
 
+    ghost right = { λ w end said. (end, said) };
+
     ghost needed = { λ ends. ends };
 
     fn expected() -> Expected {
@@ -138,6 +151,8 @@ impl Operand for LimitName {
 
     ghost expects = { want.LimitName };
 
+    ghost right = { λ w name said. (name, said) };
+
     ghost needed = { λ ends. ends };
 
     fn expected() -> Expected {
@@ -157,6 +172,8 @@ impl Operand for FileName {
 
     ghost expects = { want.FileName };
 
+    ghost right = { λ w file said. tt };
+
     ghost needed = { λ ends. ends };
 
     fn expected() -> Expected {
@@ -172,6 +189,8 @@ impl Operand for Name {
     ghost says = { λ w name. w ≡ name_word name };
 
     ghost expects = { want.Command };
+
+    ghost right = { λ w name said. (name, said) };
 
     ghost needed = { λ ends. ends };
 

@@ -1,11 +1,9 @@
 // A line's words, read as a command.
-ghost use Rattle.std.specs.Prelude.{◌≡◌, ℕ, ◌+◌, ◌-◌, ◌<◌, ◌≤◌, ◌⊎◌, List, length, codes, MatchResult, OnOk};
-ghost use Rattle.std.specs.Borrow.{Bor};
-ghost use Rattle.text.specs.Words.{Words};
+ghost use Rattle.std.specs.Prelude.{◌≡◌, ◌+◌, ◌<◌, ◌≤◌, ◌⊎◌, length, codes, MatchResult, OnOk};
 ghost use Rattle.commands.specs.declared.mistake.Expected.TheVariants as want;
 ghost use Rattle.commands.specs.declared.name.Name.TheVariants as name;
 ghost use Rattle.commands.specs.Words.{word};
-ghost use Rattle.commands.specs.Mistakes.{Blames, Wrong, BeforeAt, NamesBefore, LimitAt};
+ghost use Rattle.commands.specs.Mistakes.{Blames, Wanted, Wrong, BeforeAt, NamesBefore, LimitAt};
 ghost use Rattle.commands.specs.Said.{BeforeFrom, ReadAs, Parsed, Answers};
 
 use crate::command::{Command, SheetCommand};
@@ -15,7 +13,6 @@ use crate::operand::{FileName, Operand};
 use limit_names::LimitName;
 use plain::NewRow;
 use road::design::RoadDesign;
-use text::words::words_of;
 
 // The most words of a line that are read, more than any command but `limit` has.
 pub const MOST_WORDS: usize = 64;
@@ -43,7 +40,7 @@ impl<'a> Cursor<'_, 'a> {
 
     // Reads the word at the place.
     fn operand<T: Operand>(&mut self) -> Result<T, ParseError<'a>>
-        ensures read { MatchResult result (λ x. (self.old.at < length self.old.words.now) × T.says (word self.old.words.now self.old.at) x) (λ e. Blames self.old.words.now e × (e.at ≡ self.old.at + 1) × (e.expected ≡ T.expects) × Wrong self.old.words.now e) }
+        ensures read { MatchResult result (λ x. (self.old.at < length self.old.words.now) × T.says (word self.old.words.now self.old.at) x × Wanted T.expects (word self.old.words.now self.old.at)) (λ e. Blames self.old.words.now e × (e.at ≡ self.old.at + 1) × (e.expected ≡ T.expects) × Wrong self.old.words.now e) }
         ensures next { OnOk result ((self.new.words ≡ self.old.words) × (self.new.at ≡ self.old.at + 1)) }
     {
         let value = self
@@ -67,7 +64,7 @@ impl<'a> Cursor<'_, 'a> {
 
     // Reads `before N`, or nothing where the line ends at the place.
     fn before(&mut self) -> Result<Option<u32>, ParseError<'a>>
-        ensures { MatchResult result (λ n. BeforeFrom self.old.words.now self.old.at n) (λ e. Blames self.old.words.now e × BeforeAt self.old.at e.at e.expected × Wrong self.old.words.now e) }
+        ensures { MatchResult result (λ n. BeforeFrom self.old.words.now self.old.at n) (λ e. Blames self.old.words.now e × BeforeAt self.old.words.now self.old.at e.at e.expected × Wrong self.old.words.now e) }
     {
         match self.words.get(self.at) {
             None => return Ok(None),
@@ -202,7 +199,7 @@ impl<'a> Cursor<'_, 'a> {
 
     // Reads a limit's name, and the name of a file after `table`.
     fn limit_name(&mut self) -> Result<(), ParseError<'a>>
-        requires { (1 ≤ self.old.at) × ((self.old.at ≡ 1) ⊎ (self.old.at < length self.old.words.now)) × NamesBefore self.old.words.now (self.old.at + 1) }
+        requires { (1 ≤ self.old.at) × ((self.old.at ≡ 1) ⊎ (self.old.at < length self.old.words.now)) × NamesBefore self.old.words.now (self.old.at + 1) × (length self.old.words.now < 64) }
         ensures read { MatchResult result (λ _. NamesBefore self.new.words.now (self.new.at + 1)) (λ e. Blames self.old.words.now e × (1 < e.at) × LimitAt self.old.words.now e.at e.expected × Wrong self.old.words.now e) }
         ensures next { OnOk result ((self.new.words ≡ self.old.words) × (self.old.at < self.new.at)) }
     {
@@ -252,8 +249,8 @@ fn command<'a>(words: &[&'a str]) -> Result<Command, ParseError<'a>>
     }
 }
 
-// What the words of a line answer: nothing if there are none or the first begins a comment.
-fn answer<'a>(words: &[&'a str]) -> Result<Option<Command>, ParseError<'a>>
+// The command that the words of a line say; `None` where there are none, and where the first begins with '#'.
+pub fn parse<'a>(words: &[&'a str]) -> Result<Option<Command>, ParseError<'a>>
     ensures { Answers words.now result }
 {
     match words {
@@ -261,13 +258,4 @@ fn answer<'a>(words: &[&'a str]) -> Result<Option<Command>, ParseError<'a>>
         [first, ..] if first.starts_with('#') => Ok(None),
         _ => Ok(Some(command(words)?)),
     }
-}
-
-// The command that the line says; `None` for a blank line and for one whose first word begins with '#'.
-pub fn parse_line(line: &str) -> Result<Option<Command>, ParseError<'_>>
-    ensures { (ws : List (Bor (List ℕ))) × Words 64 line.now ws × Answers ws result }
-{
-    let mut words = [""; MOST_WORDS];
-    let count = words_of(line, &mut words);
-    answer(&words[..count])
 }

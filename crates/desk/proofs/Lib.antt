@@ -1,4 +1,3 @@
+pub mod Calls
 pub mod Prints
-pub mod Pages
 pub mod Reports
-pub mod Stretches

@@ -1,4 +1,4 @@
+pub mod Calling
 pub mod Desk
 pub mod Printing
 pub mod Reporting
-pub mod Stretch

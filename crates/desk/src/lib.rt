@@ -1,10 +1,10 @@
 // The open sheet, the memory that it lies in, and the limits in force for it; and what commands do with them.
 #![tactic(auto)]
 
-mod carrying;
+mod calling;
 pub mod desk;
 mod listing;
 mod opening;
 pub mod order;
-mod printer;
 mod reporting;
+mod saying;

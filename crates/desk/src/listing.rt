@@ -4,7 +4,8 @@ ghost use Rattle.std.specs.Io.KnownBytes.{Appends};
 ghost use Rattle.rows.specs.Reading.{rows_of};
 ghost use Rattle.series.specs.Calls.{mark_of, road_of, count_of};
 ghost use Rattle.desk.specs.Printing.{rows_text, SetOutList};
-ghost use Rattle.desk.specs.Reporting.{has_mark, SheetShown, Below};
+ghost use Rattle.desk.specs.Reporting.{has_mark, SheetShown};
+ghost use Rattle.report.specs.Findings.{FindingsBelow};
 ghost use Rattle.plain.specs.Sheet.{fitted};
 ghost use Rattle.wording.specs.Lines.{explained_text};
 ghost use Rattle.report.specs.Explaining.{LinesOf};
@@ -18,7 +19,6 @@ use choice::in_force::LimitsInForce;
 use commands::name::Name;
 use findings::finding::Finding;
 use report::writing::Report;
-use road::refusal::Refusal;
 use road::road::Road;
 use rows::record::RowRecord;
 use series::mark::Sheet;
@@ -30,7 +30,6 @@ use std::io::Write;
 pub(crate) struct View<'a> {
     pub(crate) sheet: &'a Sheet,
     pub(crate) rows: &'a [RowRecord],
-    pub(crate) findings: &'a [Finding],
     pub(crate) limits: &'a LimitsInForce,
 }
 
@@ -92,40 +91,35 @@ impl<'a> View<'a> {
         }
     }
 
-    // The sheet as a table, and what a check found, or why there is no check.
-    pub(crate) fn write_report<W: Write>(
-        &self,
-        out: &mut W,
-        found: Result<usize, Refusal>,
-    ) -> io::Result<()>
-        ensures { OnOk result ((table : List ℕ) × (below : List ℕ) × SheetShown self.now.sheet.now self.now.rows.now self.now.limits.now table × Below (road_of self.now.sheet.now) self.now.limits.now (take (count_of self.now.sheet.now) self.now.rows.now) self.now.findings.now found below × Appends (W.contents out.old) (W.contents out.new) (table ++ below)) }
+    // The sheet as a table.
+    pub(crate) fn write_table<W: Write>(&self, out: &mut W) -> io::Result<()>
+        ensures { OnOk result ((table : List ℕ) × SheetShown self.now.sheet.now self.now.rows.now self.now.limits.now table × Appends (W.contents out.old) (W.contents out.new) table) }
     {
         let road = self.sheet.road();
-        let report = self.report(&road);
-        report.write_table(out)?;
-        match found {
-            Ok(count) => {
-                let count = count.min(self.findings.len());
-                report.write_findings(out, &self.findings[..count])
-            }
-            Err(refusal) => writeln!(out, "{}", Failure::Refused(refusal)),
-        }
+        self.report(&road).write_table(out)
+    }
+
+    // What stands below the table: the findings of a check, and how many they are.
+    pub(crate) fn write_below<W: Write>(&self, out: &mut W, findings: &[Finding]) -> io::Result<()>
+        ensures { OnOk result ((below : List ℕ) × FindingsBelow (road_of self.now.sheet.now) self.now.limits.now (take (count_of self.now.sheet.now) self.now.rows.now) findings.now below × Appends (W.contents out.old) (W.contents out.new) below) }
+    {
+        let road = self.sheet.road();
+        self.report(&road).write_findings(out, findings)
     }
 }
 
 impl Desk {
     ghost use Rattle.desk.specs.Desk.{IsOpen, rows_in};
-    ghost use Rattle.desk.specs.Printing.{Lists};
+    ghost use Rattle.desk.specs.Printing.{listing_of};
 
     // Writes the rows of the open sheet.
     pub fn write_rows<W: Write>(&self, out: &mut W) -> io::Result<()>
-        ensures { OnOk result (Lists W.contents self.now.sheet (rows_in self.now) out.old out.new) }
+        ensures { OnOk result (Appends (W.contents out.old) (W.contents out.new) (listing_of self.now.sheet (rows_in self.now))) }
     {
         match &self.sheet {
             Some(sheet) => View {
                 sheet,
                 rows: self.rows.as_slice(),
-                findings: self.findings.as_slice(),
                 limits: &self.limits,
             }
             .write_rows(out),

@@ -1,9 +1,8 @@
-// A call of the open sheet that was read and is still to be made.
+// A call of the open sheet, with the number of the line that says it.
 use commands::command::SheetCommand;
 
 #[derive(Clone, Copy)]
 pub struct Order {
-    // the number of the line that said it
     pub line: u64,
     pub command: SheetCommand,
 }

@@ -1,5 +1,6 @@
 // The open sheet as a table that a person reads, with what a check of it finds.
-ghost use Rattle.std.specs.Prelude.{◌≡◌, OnOk, length};
+ghost use Rattle.std.specs.Prelude.{◌≡◌, List, ℕ, IfOk, length};
+ghost use Rattle.std.specs.Io.KnownBytes.{Appends};
 ghost use Rattle.plain.specs.Sheet.{fitted, check as asking};
 ghost use Rattle.sheet.specs.States.{listed, Untouched, Performs};
 ghost use Rattle.series.specs.Calls.{mark_of, stands};
@@ -8,7 +9,12 @@ ghost use Rattle.desk.specs.Reporting.{has_mark, Reports};
 
 use crate::desk::Desk;
 use crate::listing::View;
+use answers::failure::Failure;
+use answers::refused::RefusedLine;
+use answers::verdict::Verdict;
 use choice::in_force::LimitsInForce;
+use commands::command::Command;
+use commands::name::Name;
 use findings::finding::Finding;
 use road::refusal::Refusal;
 use rows::record::RowRecord;
@@ -39,12 +45,15 @@ pub(crate) fn is_fitted(sheet: &Sheet) -> bool
 }
 
 impl Desk {
-    // Writes the open sheet as a table, and below it what a check finds under the limits in force.
-    pub fn report<W: Write>(&mut self, out: &mut W) -> io::Result<()>
-        ensures { OnOk result (Reports W.contents self.old.sheet self.old out.old self.new out.new) }
+    // Writes the open sheet as a table, and below it what a check finds under the limits in force, and says how its line fares. Where no sheet is open,
+    // the line is wrong.
+    pub fn report<W: Write>(&mut self, out: &mut W, line: u64) -> io::Result<Verdict>
+        ensures { IfOk result (λ verdict. (text : List ℕ) × Reports line self.old.sheet self.old self.new text verdict × Appends (W.contents out.old) (W.contents out.new) text) }
     {
         let Some(sheet) = &self.sheet else {
-            return Ok(());
+            let no_road = Failure::NoRoad(Name::Report);
+            writeln!(out, "error {line}: {no_road}")?;
+            return Ok(Verdict::Wrong);
         };
         let found = check(
             sheet,
@@ -55,10 +64,24 @@ impl Desk {
         let view = View {
             sheet,
             rows: self.rows.as_slice(),
-            findings: self.findings.as_slice(),
             limits: &self.limits,
         };
-        view.write_report(out, found)?;
-        Ok(())
+        view.write_table(out)?;
+        match found {
+            Ok(count) => {
+                view.write_below(out, &self.findings.as_slice()[..count])?;
+                Ok(Verdict::Answered)
+            }
+            Err(refusal) => {
+                let command = Command::Report;
+                let refused = RefusedLine {
+                    refusal,
+                    command,
+                    line,
+                };
+                writeln!(out, "{refused}")?;
+                Ok(Verdict::Refused)
+            }
+        }
     }
 }

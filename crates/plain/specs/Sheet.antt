@@ -53,8 +53,8 @@ pub data Call : Type 0 where
 pub data Answer : Type 0 where
   -- the call was carried out
   done : Answer
-  -- the findings of a check
-  found : List Finding → Answer
+  -- the findings of a check, and how many they are
+  found : (number : ℕ) (findings : List Finding) → Answer
   -- a parameter, mm
   value : ℕ → Answer
   -- one of the twelve refusals, with the row that it names
@@ -65,7 +65,7 @@ pub data Answer : Type 0 where
 -- The answers of a call that was not carried out.
 abbrev pub Stopped : Answer → Type 0
 Stopped done = ⊥
-Stopped (found findings) = ⊥
+Stopped (found number findings) = ⊥
 Stopped (value A) = ⊥
 Stopped (refused number row) = Unit {0}
 Stopped barred = Unit {0}
@@ -155,7 +155,7 @@ Effect s (add place given) a s' = (a ≡ done) × ((r : Row) × Given given r ×
 Effect s (take_out n) a s' = (a ≡ done) × (s' ≡ with_rows s (remove s.rows n))
 Effect s (set_lengths n entry exit) a s' =
     (a ≡ done) × ((c d : Curve) × RowAt s.rows n (row.Curve c) × WithLengths c entry exit d × (s' ≡ with_rows s (slice_set s.rows n (row.Curve d))))
-Effect s (check limit space) a s' = (findings : List Finding) × FindingsOf s.road limit.admits s.rows findings × (a ≡ found findings) × (s' ≡ s)
+Effect s (check limit space) a s' = (findings : List Finding) × FindingsOf s.road limit.admits s.rows findings × (a ≡ found (length findings) findings) × (s' ≡ s)
 Effect s (fit limit) a s' =
     ((a ≡ done) × ((rows : List Row) × LeastLengths s.road limit.admits s.rows rows × (s' ≡ marked fitted (with_rows s rows))))
     ⊎ ((n : ℕ) × NoLengths s.road limit.admits s.rows × FirstWithout s.road limit.admits s.rows n × (a ≡ refused 12 n) × (s' ≡ s))

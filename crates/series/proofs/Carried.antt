@@ -12,8 +12,8 @@ use Rattle.series.specs.declared.answer.Answer.{Answer as RealAnswer}
 use Rattle.series.specs.declared.answer.Answer.TheVariants as answer
 use Rattle.series.specs.declared.mark.Sheet.{Sheet}
 use Rattle.series.specs.declared.mark.Sheet.TheVariants as sheet
-use Rattle.series.specs.Calls.{stands, told, Kept}
-use Rattle.series.specs.Runs.{Turn, Seen, Left, look, Lent, Chain, last_of, Watched, findings_after, findings_after_all, opened_in, CarriedOut}
+use Rattle.series.specs.Calls.{stands, told, found_in, Kept}
+use Rattle.series.specs.Runs.{Turn, Seen, Left, look, Lent, Chain, last_of, Watched, findings_after, findings_after_all, seen, opened_in, CarriedOut}
 use Rattle.series.proofs.Chains.{chained, chain_fits, chain_more, last_more, watched_more, over_more}
 
 -- a sheet just opened, with any memory
@@ -41,8 +41,12 @@ lent_front s n rows part room c a within p =
       rest = drop_at part (drop room rows) room number;
     }
 
+-- the watcher was shown what the check found
+pub showed : {W : Type 0} (sees : W → Seen → W → Type 0) (w w' : W) (s : Sheet) (rows : List RowRecord) (a : RealAnswer) (memory found : List Finding) → found ≡ found_in a memory → sees w (seen s rows found a) w' → sees w (seen s rows (found_in a memory) a) w'
+showed sees w w' s rows a memory found is saw = subst (λ xs. sees w (seen s rows xs a) w') is saw
+
 -- what the findings memory holds after an answer
-pub over_by : (a : RealAnswer) (before after : List Finding) → Kept a before after → after ≡ findings_after (told a after) before
+pub over_by : (a : RealAnswer) (before after : List Finding) → Kept a before after → after ≡ findings_after (told a (found_in a after)) before
 over_by answer.Done before after same = same
 over_by (answer.Found n) before after (within, long, past) =
     let number : length (take n after) ≡ n = length-take-le n after (omega arith) in

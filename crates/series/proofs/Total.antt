@@ -161,7 +161,7 @@ effect room s (set_lengths n entry exit) clear =
     )
 effect room s (check limit space) clear =
     let all = listed s.road limit.admits 0 nothing s.rows in
-    (found all, s, (all, listed_is s.road limit.admits limit.lawful s.rows, refl, refl))
+    (found (length all) all, s, (all, listed_is s.road limit.admits limit.lawful s.rows, refl, refl))
 effect room s (fit limit) clear = elim (outcome s.road limit.admits limit.lawful s.rows) [
   | inl least ↦ (done, marked fitted (with_rows s least.0), inl (refl, (least.0, least.1, refl)))
   | inr none ↦ (refused 12 none.0, s, inr (none.0, none.1, none.2, refl, refl))

@@ -1,5 +1,5 @@
 -- Sheets, calls and answers at run time, and what they are on the plain sheet.
-use Rattle.std.specs.Prelude.{◌≡◌, ℕ, ◌≤◌, Bool, List, length, take, drop, min, unwrap_or, Ok, Err, Result}
+use Rattle.std.specs.Prelude.{◌≡◌, ℕ, ◌≤◌, Bool, List, [], length, take, drop, min, unwrap_or, Ok, Err, Result}
 use Rattle.road.specs.declared.refusal.Refusal.{Refusal}
 use Rattle.road.specs.declared.road.Road.{Road}
 use Rattle.limits.specs.declared.place.Place.{Place}
@@ -46,13 +46,21 @@ asked meant findings count (call.Fit limit) = fit (meant limit)
 asked meant findings count (call.Parameter row at) = parameter row at
 asked meant findings count call.Reopen = reopen
 
--- What an answer says; a check's findings are those at the front of their memory.
+-- What an answer says, where these are the findings of its check.
 abbrev pub told : Answer → List Finding → plain.Answer
 told Done findings = done
-told (Found n) findings = found (take n findings)
+told (Found n) findings = found n findings
 told (Parameter A) findings = value A
 told (Refused r) findings = refusal r
 told Barred findings = barred
+
+-- The findings of a check, at the front of their memory; there are none after any other answer.
+abbrev pub found_in : Answer → List Finding → List Finding
+found_in Done memory = []
+found_in (Found n) memory = take n memory
+found_in (Parameter A) memory = []
+found_in (Refused r) memory = []
+found_in Barred memory = []
 
 abbrev pub check_answer_lem : Result ℕ Refusal → Answer
 check_answer_lem (Ok n) = Found n

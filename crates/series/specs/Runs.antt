@@ -70,7 +70,7 @@ Watched {W = W} sees w (x ∷ xs) w' = (v : W) × sees w x v × Watched sees v x
 -- What the findings memory holds after an answer, and after several: the findings of a check at its front, and past them what it held.
 abbrev pub findings_after : Answer → List Finding → List Finding
 findings_after done memory = memory
-findings_after (found findings) memory = findings ++ drop (length findings) memory
+findings_after (found number findings) memory = findings ++ drop (length findings) memory
 findings_after (value A) memory = memory
 findings_after (refused number row) memory = memory
 findings_after barred memory = memory
@@ -83,7 +83,7 @@ findings_after_all (x ∷ xs) memory = findings_after_all xs (findings_after x.a
 abbrev pub turn : {L : Type 0} → (L → Meaning) → (rows findings : ℕ) → Request L → Turn
 turn meant rows findings q = record { room = min q.room rows; call = λ count. asked meant findings count q.call }
 
--- What is seen of a sheet at run time.
+-- What is seen of a sheet at run time, with the findings of its check.
 abbrev pub seen : Sheet → List RowRecord → List Finding → RealAnswer → Seen
 seen s memory findings a = record { answer = told a findings; sheet = shown (stands s memory) }
 

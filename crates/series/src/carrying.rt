@@ -37,7 +37,7 @@ impl Sheet {
         for request in requests {
             let room = request.room.min(rows.len());
             let (next, answer) = sheet.step(&mut rows[..room], findings, &request.call);
-            watcher.see(&next, rows, findings, answer);
+            watcher.see(&next, rows, answer.found_in(findings), answer);
             sheet = next;
         }
         sheet

@@ -3,7 +3,7 @@ ghost use Rattle.std.specs.Prelude.{◌≡◌, List, length, min};
 ghost use Rattle.findings.specs.declared.finding.Finding.{Finding};
 ghost use Rattle.plain.specs.Sheet.{check as asking};
 ghost use Rattle.sheet.specs.States.{drafted, fitted_in, edited, Performs};
-ghost use Rattle.series.specs.Calls.{meaning, asked, stands, told, check_answer_lem, Kept};
+ghost use Rattle.series.specs.Calls.{meaning, asked, stands, told, found_in, check_answer_lem, Kept};
 
 use crate::answer::Answer;
 use crate::call::Call;
@@ -23,7 +23,7 @@ impl Sheet {
         findings: &mut [Finding],
         call: &Call<L>,
     ) -> (Sheet, Answer)
-        ensures step { Performs (stands self rows.old) (asked (meaning L.Limit.admitted L.Limit.lawful) (length findings.old) (stands self rows.old).count call.now) (told result.1 findings.new) (stands result.0 rows.new) }
+        ensures step { Performs (stands self rows.old) (asked (meaning L.Limit.admitted L.Limit.lawful) (length findings.old) (stands self rows.old).count call.now) (told result.1 (found_in result.1 findings.new)) (stands result.0 rows.new) }
         ensures rest { Kept result.1 findings.old findings.new }
     {
         match self {
@@ -39,7 +39,7 @@ fn on_draft<L: Limit>(
     findings: &mut [Finding],
     call: &Call<L>,
 ) -> (Sheet, Answer)
-    ensures step { Performs (drafted draft rows.old) (asked (meaning L.Limit.admitted L.Limit.lawful) (length findings.old) draft.count call.now) (told result.1 findings.new) (stands result.0 rows.new) }
+    ensures step { Performs (drafted draft rows.old) (asked (meaning L.Limit.admitted L.Limit.lawful) (length findings.old) draft.count call.now) (told result.1 (found_in result.1 findings.new)) (stands result.0 rows.new) }
     ensures rest { Kept result.1 findings.old findings.new }
 {
     match call {
@@ -75,7 +75,7 @@ fn on_fitted<L: Limit>(
     findings: &mut [Finding],
     call: &Call<L>,
 ) -> (Sheet, Answer)
-    ensures step { Performs (fitted_in fitted rows.now) (asked (meaning L.Limit.admitted L.Limit.lawful) (length findings.old) fitted.count call.now) (told result.1 findings.new) (stands result.0 rows.now) }
+    ensures step { Performs (fitted_in fitted rows.now) (asked (meaning L.Limit.admitted L.Limit.lawful) (length findings.old) fitted.count call.now) (told result.1 (found_in result.1 findings.new)) (stands result.0 rows.now) }
     ensures rest { Kept result.1 findings.old findings.new }
 {
     match call {

@@ -10,7 +10,7 @@ pub trait Watcher {
     // How seeing a call's answer, and the sheet after it, changes the watcher.
     ghost sees: { Self → Seen → Self → Type 0 };
 
-    // The sheet's rows are in the row memory, and the findings of a check in theirs.
-    fn see(&mut self, sheet: &Sheet, rows: &[RowRecord], findings: &[Finding], answer: Answer)
-        ensures { sees self.old (seen sheet.now rows.now findings.now answer) self.new };
+    // The sheet's rows are in the row memory. What was found are the findings of this check, and none after any other call.
+    fn see(&mut self, sheet: &Sheet, rows: &[RowRecord], found: &[Finding], answer: Answer)
+        ensures { sees self.old (seen sheet.now rows.now found.now answer) self.new };
 }

@@ -23,7 +23,7 @@ impl Watcher for Recorder {
     // Where there is a slot, it gets the answer.
     ghost sees = { λ before seen after. before.count < 12 → (answer : Answer) × (findings : List Finding) × (seen.answer ≡ told answer findings) × (after.answers ≡ slice_set before.answers before.count answer) × (after.count ≡ before.count + 1) };
 
-    fn see(&mut self, _sheet: &Sheet, _rows: &[RowRecord], _findings: &[Finding], answer: Answer) {
+    fn see(&mut self, _sheet: &Sheet, _rows: &[RowRecord], _found: &[Finding], answer: Answer) {
         if self.count < CALLS {
             self.answers[self.count] = answer;
             self.count += 1;

@@ -92,7 +92,7 @@ fn norma_then_table(rt: HostRuntime) -> Result<(), Fail> {
     let norma: Chosen = Either::One(COMPULSORY);
     let table = Either::Other(Pile {
         first: COMPULSORY,
-        second: ClientTable { bytes: &TABLE },
+        second: ClientTable::of(&TABLE),
     });
     let shown = answers(&[
         whole(Call::Fit { limit: norma }),

@@ -1,2 +1,4 @@
 pub mod Comments
-pub mod Settling
+pub mod Naming
+pub mod Telling
+pub mod Sheets

@@ -1,156 +1,112 @@
--- What a line leaves of the desk and of the stretch, and how lines are counted.
-use Rattle.std.specs.Prelude.{◌≡◌, ℕ, ◌+◌, ◌-◌, ◌^◌, min, Bool, false, cond, ◌⊎◌, List, [], ◌∷◌, ◌++◌, vec_items, Some, None, Ok, Err, IsUtf8, Option, Result, ◌==◌}
+-- What each line does on the desk, what is written of it, and how it fares.
+use Rattle.std.specs.Prelude.{◌≡◌, ℕ, Bool, false, cond, ◌⊎◌, List, [], ◌∷◌, ◌++◌, vec_items, drop, Some, None, Ok, Err, IsUtf8, Option, Result, ◌==◌, codes, decimal}
 use Rattle.std.specs.Char.{is_ascii_whitespace}
 use Rattle.std.specs.Borrow.{Bor}
+use Rattle.std.specs.Str.Lossy.{utf8_valid_len}
 use Rattle.text.specs.Words.{Words}
 use Rattle.road.specs.declared.design.RoadDesign.{RoadDesign}
 use Rattle.commands.specs.declared.mistake.ParseError.{ParseError}
 use Rattle.commands.specs.Said.{Answers}
+use Rattle.commands.specs.Shown.{mistake_text}
+use Rattle.commands.specs.declared.name.Name.{Name}
+use Rattle.commands.specs.declared.name.Name.TheVariants as name
 use Rattle.commands.specs.declared.command.Command.{Command}
 use Rattle.commands.specs.declared.command.Command.TheVariants.{Road, Label, Sheet, Rows, Report, Limit}
-use Rattle.commands.specs.declared.command.SheetCommand.{SheetCommand}
 use Rattle.choice.specs.declared.in_force.LimitsInForce.{LimitsInForce}
 use Rattle.choice.specs.declared.in_force.LimitsInForce.TheVariants.{Compulsory, Named}
-use Rattle.series.specs.declared.mark.Sheet.{Sheet as RealSheet}
+use Rattle.series.specs.declared.mark.Sheet.{Sheet as OpenSheet}
 use Rattle.answers.specs.declared.answer.Answer.{Answer}
 use Rattle.answers.specs.declared.failure.Failure.{Failure}
-use Rattle.answers.specs.declared.failure.Failure.TheVariants.{Refused, NoRoad, Fitted, Draft}
-use Rattle.desk.specs.Desk.{Opens, Labels, with_limits}
+use Rattle.answers.specs.declared.failure.Failure.TheVariants as failure
+use Rattle.answers.specs.declared.verdict.Verdict.{Verdict}
+use Rattle.answers.specs.declared.verdict.Verdict.TheVariants.{Answered, Refused, Wrong}
+use Rattle.answers.specs.Shown.{answer_text, failure_text}
+use Rattle.answers.specs.Refused.{refused_text}
+use Rattle.desk.specs.declared.desk.Desk.{Desk}
+use Rattle.desk.specs.Desk.{rows_in, Opens, Labels, with_limits}
+use Rattle.desk.specs.Calling.{CalledOn}
+use Rattle.desk.specs.Printing.{as_line, wrong_line, listing_of}
 use Rattle.desk.specs.Reporting.{Reports}
-use Rattle.desk.specs.Stretch.{CarriesOut}
-use Rattle.session.specs.declared.Session.{Session}
+use Rattle.session.specs.Choosing.{NamesLimits, FileAt, unreadable_text, echo}
 
--- one more, up to the greatest number of 64 bits
-abbrev pub Counted : ℕ → ℕ → Type 0
-Counted before after = after ≡ min (before + 1) (2 ^ 64 - 1)
+-- What is written of a command's answer at a line.
+abbrev pub told_text : (line : ℕ) → Command → Result Answer Failure → List ℕ
+told_text line command (Ok answer) = as_line (answer_text answer)
+told_text line command (Err (failure.Refused refusal)) = as_line (refused_text refusal command line)
+told_text line command (Err (failure.NoRoad name)) = wrong_line line (failure_text (failure.NoRoad name))
+told_text line command (Err (failure.Fitted name)) = wrong_line line (failure_text (failure.Fitted name))
+told_text line command (Err (failure.Draft name)) = wrong_line line (failure_text (failure.Draft name))
 
--- A line that asks for what the sheet does not allow, or for an open road where there is none, is wrong; any other answer is not.
-abbrev pub CountedBy : Result Answer Failure → ℕ → ℕ → Type 0
-CountedBy (Ok answer) before after = after ≡ before
-CountedBy (Err (Refused refusal)) before after = after ≡ before
-CountedBy (Err (NoRoad name)) before after = Counted before after
-CountedBy (Err (Fitted name)) before after = Counted before after
-CountedBy (Err (Draft name)) before after = Counted before after
+-- How a line fares whose command is answered so: one that asks for what the sheet does not allow, or for an open road where there is none, is wrong.
+abbrev pub verdict_on : Result Answer Failure → Verdict
+verdict_on (Ok answer) = Answered
+verdict_on (Err (failure.Refused refusal)) = Refused
+verdict_on (Err (failure.NoRoad name)) = Wrong
+verdict_on (Err (failure.Fitted name)) = Wrong
+verdict_on (Err (failure.Draft name)) = Wrong
 
--- A line more is counted.
-abbrev pub with_line : Session → Session
-with_line s = record { desk = s.desk; stretch = s.stretch; lines = min (s.lines + 1) (2 ^ 64 - 1); wrong = s.wrong }
+-- The limits are those that the words name.
+abbrev pub AreNamed : List (Bor (List ℕ)) → LimitsInForce → Type 0
+AreNamed ws Compulsory = ⊥
+AreNamed ws (Named limits) = NamesLimits ws (vec_items limits)
 
--- No call waits to be made.
-abbrev pub NoneWaits : Session → Type 0
-NoneWaits s = vec_items s.stretch ≡ []
+module _ (line : ℕ) (before after : Desk) (text : List ℕ) (verdict : Verdict) where
+  -- A line that says nothing.
+  abbrev pub Nothing : Type 0
+  Nothing = (after ≡ before) × (text ≡ []) × (verdict ≡ Answered)
 
--- Nothing changes; how many lines there were is said apart.
-pub record Unchanged (before after : Session) : Type 0 where
-  pub desk : after.desk ≡ before.desk
-  pub stretch : after.stretch ≡ before.stretch
-  pub wrong : after.wrong ≡ before.wrong
+  -- A line that is wrong changes nothing on the desk, and what is wrong with it is written.
+  abbrev pub IsWrong : (what : List ℕ) → Type 0
+  IsWrong what = (after ≡ before) × (text ≡ wrong_line line what) × (verdict ≡ Wrong)
 
--- A wrong line is counted, and changes nothing else.
-pub record WrongLine (before after : Session) : Type 0 where
-  pub desk : after.desk ≡ before.desk
-  pub stretch : after.stretch ≡ before.stretch
-  pub wrong : Counted before.wrong after.wrong
+  -- A command that speaks of the open sheet, where there is none.
+  abbrev pub WantsRoad : Name → Type 0
+  WantsRoad name = IsWrong (failure_text (failure.NoRoad name))
 
-pub record RoadLeft (design : RoadDesign) (before after : Session) : Type 0 where
-  pub answer : Result Answer Failure
-  pub opens : Opens design before.desk after.desk answer
-  pub stretch : after.stretch ≡ before.stretch
-  pub wrong : CountedBy answer before.wrong after.wrong
+  pub record RoadLeft (design : RoadDesign) : Type 0 where
+    pub answer : Result Answer Failure
+    pub opens : Opens design before after answer
+    pub tells : text ≡ told_text line (Road design) answer
+    pub fares : verdict ≡ verdict_on answer
 
-pub record LabelLeft (radius turn : ℕ) (before after : Session) : Type 0 where
-  pub answer : Result Answer Failure
-  pub labels : Labels radius turn before.desk.sheet answer
-  pub desk : after.desk ≡ before.desk
-  pub stretch : after.stretch ≡ before.stretch
-  pub wrong : CountedBy answer before.wrong after.wrong
+  pub record LabelLeft (radius turn : ℕ) : Type 0 where
+    pub answer : Result Answer Failure
+    pub labels : Labels radius turn before.sheet answer
+    pub desk : after ≡ before
+    pub tells : text ≡ told_text line (Label radius turn) answer
+    pub fares : verdict ≡ verdict_on answer
 
--- A line that speaks of the open sheet where there is none is wrong.
-abbrev pub RowsLeftOn : Option RealSheet → Session → Session → Type 0
-RowsLeftOn (Some s) before after = Unchanged before after
-RowsLeftOn None before after = WrongLine before after
+  -- The rows of the open sheet are listed.
+  abbrev pub RowsLeft : Option OpenSheet → Type 0
+  RowsLeft (Some s) = (after ≡ before) × (text ≡ listing_of (Some s) (rows_in before)) × (verdict ≡ Answered)
+  RowsLeft None = WantsRoad name.Rows
 
-abbrev pub RowsLeft : Session → Session → Type 0
-RowsLeft before after = RowsLeftOn before.desk.sheet before after
+  -- The limits that the words after the first name are put in force for the open sheet, in their order, and the words are written again; or a file that
+  -- they name cannot be read, and the line is wrong.
+  abbrev pub LimitLeft : List (Bor (List ℕ)) → Option OpenSheet → Type 0
+  LimitLeft ws (Some s) =
+      (AreNamed (drop 1 ws) after.limits × (after ≡ with_limits after.limits before) × (text ≡ as_line (echo ws)) × (verdict ≡ Answered))
+      ⊎ ((at : ℕ) × (file : List ℕ) × (why : List ℕ) × FileAt 2 (drop 1 ws) at file × IsWrong (unreadable_text at file why))
+  LimitLeft ws None = WantsRoad name.Limit
 
-module _ {W : Type 0} (contents : W → Option (List ℕ)) where
-  -- A report writes the sheet and what a check finds; where no sheet is open, the line is wrong.
-  pub record Reported (s : RealSheet) (before : Session) (out : W) (after : Session) (out' : W) : Type 0 where
-    pub desk : Reports contents (Some s) before.desk out after.desk out'
-    pub stretch : after.stretch ≡ before.stretch
-    pub wrong : after.wrong ≡ before.wrong
+  -- What a command leaves, whose words are these.
+  abbrev pub CommandLeft : List (Bor (List ℕ)) → Command → Type 0
+  CommandLeft ws (Road design) = RoadLeft design
+  CommandLeft ws (Label radius turn) = LabelLeft radius turn
+  CommandLeft ws (Sheet command) = CalledOn (record { line = line; command = command }) before.sheet before after text verdict
+  CommandLeft ws Rows = RowsLeft before.sheet
+  CommandLeft ws Report = Reports line before.sheet before after text verdict
+  CommandLeft ws Limit = LimitLeft ws before.sheet
 
-  abbrev pub ReportLeftOn : Option RealSheet → Session → W → Session → W → Type 0
-  ReportLeftOn (Some s) before out after out' = Reported s before out after out'
-  ReportLeftOn None before out after out' = WrongLine before after
-
-  abbrev pub ReportLeft : Session → W → Session → W → Type 0
-  ReportLeft before out after out' = ReportLeftOn before.desk.sheet before out after out'
-
--- Limits that were named.
-abbrev pub AreNamed : LimitsInForce → Type 0
-AreNamed Compulsory = ⊥
-AreNamed (Named limits) = Unit {0}
-
--- Naming limits puts those that were named in force for the open sheet.
-pub record Chosen (before after : Session) : Type 0 where
-  pub named : AreNamed after.desk.limits
-  pub desk : after.desk ≡ with_limits after.desk.limits before.desk
-  pub stretch : after.stretch ≡ before.stretch
-  pub wrong : after.wrong ≡ before.wrong
-
--- Where no sheet is open, or a file cannot be read, the line is wrong.
-abbrev pub LimitLeftOn : Option RealSheet → Session → Session → Type 0
-LimitLeftOn (Some s) before after = Chosen before after ⊎ WrongLine before after
-LimitLeftOn None before after = WrongLine before after
-
-abbrev pub LimitLeft : Session → Session → Type 0
-LimitLeft before after = LimitLeftOn before.desk.sheet before after
-
--- A call of the open sheet is put at the end of the stretch, with the number of its line.
-pub record Put (command : SheetCommand) (before after : Session) : Type 0 where
-  pub desk : after.desk ≡ before.desk
-  pub stretch : vec_items after.stretch ≡ vec_items before.stretch ++ record { line = before.lines; command = command } ∷ []
-  pub wrong : after.wrong ≡ before.wrong
-
-module _ {W : Type 0} (contents : W → Option (List ℕ)) where
-  -- The stretch is carried out, and none is left; the calls that are barred count as wrong lines.
-  pub record Settled (before : Session) (out : W) (after : Session) (out' : W) : Type 0 where
-    pub barred : ℕ
-    pub carried : CarriesOut contents (vec_items before.stretch) before.desk.sheet before.desk out after.desk out' barred
-    pub stretch : NoneWaits after
-    pub wrong : after.wrong ≡ min (before.wrong + barred) (2 ^ 64 - 1)
-
-  -- The stretch is carried out before the line does anything.
-  abbrev pub Settles : (Session → Session → Type 0) → Session → W → Session → Type 0
-  Settles does before out after = (settled : Session) × (out' : W) × Settled before out settled out' × does settled after
-
-module _ {W : Type 0} (contents : W → Option (List ℕ)) where
-  -- Calls wait in the stretch while a sheet is open.
-  abbrev pub CallLeft : SheetCommand → Option RealSheet → Session → W → Session → Type 0
-  CallLeft command (Some s) before out after = Put command before after
-  CallLeft command None before out after = Settles contents WrongLine before out after
-
-  -- What a command leaves.
-  abbrev pub CommandLeft : Command → Session → W → Session → Type 0
-  CommandLeft (Road design) before out after = Settles contents (RoadLeft design) before out after
-  CommandLeft (Label radius turn) before out after = Settles contents (LabelLeft radius turn) before out after
-  CommandLeft (Sheet command) before out after = CallLeft command before.desk.sheet before out after
-  CommandLeft Rows before out after = Settles contents RowsLeft before out after
-  CommandLeft Report before out after =
-      (settled : Session) × (mid : W) × (out' : W) × Settled contents before out settled mid × ReportLeft contents settled mid after out'
-  CommandLeft Limit before out after = Settles contents LimitLeft before out after
-
-  -- What a line leaves, by what its words say.
-  abbrev pub LeftBy : Result (Option Command) ParseError → Session → W → Session → Type 0
-  LeftBy (Ok None) before out after = Unchanged before after
-  LeftBy (Ok (Some command)) before out after = CommandLeft command before out after
-  LeftBy (Err mistake) before out after = Settles contents WrongLine before out after
+  -- What words leave, by what they say.
+  abbrev pub LeftBy : List (Bor (List ℕ)) → Result (Option Command) ParseError → Type 0
+  LeftBy ws (Ok None) = Nothing
+  LeftBy ws (Ok (Some command)) = CommandLeft ws command
+  LeftBy ws (Err mistake) = IsWrong (mistake_text mistake.at mistake.word mistake.expected)
 
   -- The same of a line of text.
-  abbrev pub TextLeft : List ℕ → Session → W → Session → Type 0
-  TextLeft text before out after =
-      (ws : List (Bor (List ℕ))) × (said : Result (Option Command) ParseError) × Words 64 text ws × Answers ws said × LeftBy said before out after
+  abbrev pub TextLeft : List ℕ → Type 0
+  TextLeft of_line = (ws : List (Bor (List ℕ))) × (said : Result (Option Command) ParseError) × Words 64 of_line ws × Answers ws said × LeftBy ws said
 
 -- the first byte that is no white space is '#'
 abbrev pub comment_bytes : List ℕ → Bool
@@ -164,15 +120,26 @@ Marked bytes rest = bytes ≡ 239 ∷ (187 ∷ (191 ∷ rest))
 abbrev pub Unmarked : List ℕ → List ℕ → Type 0
 Unmarked bytes r = Marked bytes r ⊎ (((rest : List ℕ) → Marked bytes rest → ⊥) × (r ≡ bytes))
 
-module _ {W : Type 0} (contents : W → Option (List ℕ)) where
-  -- What a line of bytes leaves: as text what its words say; bytes that are no text are wrong, unless they are a comment.
-  abbrev pub BytesLeft : List ℕ → Session → W → Session → Type 0
-  BytesLeft bytes before out after =
-      (IsUtf8 bytes × TextLeft contents bytes before out after)
-      ⊎ ((IsUtf8 bytes → ⊥) × cond (comment_bytes bytes) (Unchanged before after) (Settles contents WrongLine before out after))
+abbrev pub too_long : List ℕ
+too_long = codes "the line is longer than " ++ (decimal 16_384 ++ codes " bytes")
 
-  -- What a line leaves, once it is counted: one that is too long is wrong, and the first loses its mark.
-  abbrev pub LineLeft : Option (Bor (List ℕ)) → Session → W → Session → Type 0
-  LineLeft None before out after = Settles contents WrongLine (with_line before) out after
-  LineLeft (Some line) before out after =
-      (bytes : List ℕ) × cond (before.lines == 0) (Unmarked line.now bytes) (bytes ≡ line.now) × BytesLeft bytes (with_line before) out after
+-- so many of the bytes are text, and no more
+abbrev pub no_text : (valid : ℕ) → List ℕ
+no_text valid = codes "after " ++ (decimal valid ++ codes " bytes the line is not UTF-8 text: save the file as UTF-8")
+
+-- The bytes of a line; None is a line that is too long.
+abbrev pub bytes_of : Option (Bor (List ℕ)) → Option (List ℕ)
+bytes_of None = None
+bytes_of (Some line) = Some line.now
+
+module _ (line : ℕ) (before after : Desk) (text : List ℕ) (verdict : Verdict) where
+  -- What a line of bytes leaves: as text what its words say; bytes that are no text are wrong, unless they are a comment.
+  abbrev pub BytesLeft : List ℕ → Type 0
+  BytesLeft bytes =
+      (IsUtf8 bytes × TextLeft line before after text verdict bytes)
+      ⊎ ((IsUtf8 bytes → ⊥) × cond (comment_bytes bytes) (Nothing line before after text verdict) (IsWrong line before after text verdict (no_text (utf8_valid_len bytes))))
+
+  -- What a line leaves on the desk: one that is too long, which is None, is wrong; the first loses its mark.
+  abbrev pub LineLeft : (first : Bool) → Option (List ℕ) → Type 0
+  LineLeft first None = IsWrong line before after text verdict too_long
+  LineLeft first (Some whole) = (bytes : List ℕ) × cond first (Unmarked whole bytes) (bytes ≡ whole) × BytesLeft bytes

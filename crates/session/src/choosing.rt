@@ -1,69 +1,134 @@
 // Limits that a line names, with the clients' tables that it names read from their files.
+ghost use Rattle.std.specs.Prelude.{◌≡◌, ◌+◌, ◌^◌, ◌<◌, ◌≤◌, length, drop, vec_items, IfOk, IfSome, MatchResult};
+ghost use Rattle.commands.specs.Names.{Names};
+ghost use Rattle.session.specs.declared.choosing.NoTable.TheVariants.{Unreadable};
+ghost use Rattle.session.specs.Choosing.{IsLarge, no_table_text, NamedFirst, NamesLimits, OfFile, Reads};
+
 use choice::ChosenLimit;
 use limit_names::{LimitName, limit_name};
-use std::alloc::AllocError;
+use std::alloc::{AllocError, Global};
 use std::error::Error;
+use std::io::Read;
 use std::{fmt, fs, io};
+
+// The largest file that is read as a client's table, in bytes.
+const LARGEST_TABLE: u64 = 64_000_000;
 
 // Why limits cannot be had.
 #[derive(Debug, Drop)]
 pub(crate) enum NoLimits<'a> {
-    // the word of the line that names the file, counted from 1
+    // the file that a word of the line names, whose place is counted from 1
     Unreadable {
         at: usize,
         file: &'a str,
-        why: io::Error,
+        why: String,
     },
     NoMemory(AllocError),
 }
 
-impl fmt::Display for NoLimits<'_> {
+// Why a table cannot be had.
+#[derive(Debug, Drop)]
+enum NoTable {
+    Unreadable(io::Error),
+    TooLarge,
+}
+
+impl From<io::Error> for NoTable {
+    ghost from_gives = { λ why none. none ≡ Unreadable why };
+
+    fn from(why: io::Error) -> NoTable {
+        NoTable::Unreadable(why)
+    }
+}
+
+impl fmt::Display for NoTable {
+    ghost output = { no_table_text };
+
     fn fmt<W: fmt::Write>(&self, f: &mut fmt::Formatter<W>) -> fmt::Result {
         match self {
-            NoLimits::Unreadable { at, file, why } => write!(
-                f,
-                "word {at} is {file:?}, a file that cannot be read: {why}; the limits stay as they were"
-            ),
-            NoLimits::NoMemory(why) => write!(f, "{why}"),
+            NoTable::Unreadable(why) => write!(f, "{why}"),
+            NoTable::TooLarge => write!(f, "it is larger than {LARGEST_TABLE} bytes"),
         }
     }
 }
 
-impl Error for NoLimits<'_> {}
+impl Error for NoTable {}
 
-// The limits that the words name, in their order. A word that names none is passed over: a line that has one is no command.
+// All bytes of a reader, where they are no more than the largest table has.
+fn table_bytes<R: Read + Drop>(heap: Global, reader: R) -> Result<Vec<u8>, NoTable>
+    ensures few { IfOk result (λ bytes. length (vec_items bytes) ≤ 64_000_000) }
+    ensures all { MatchResult result (λ bytes. IfSome (R.remaining reader) (λ all. (vec_items bytes ≡ all) × (length all ≤ 64_000_000))) (λ e. IfSome (R.remaining reader) (λ all. IsLarge all e)) }
+{
+    let mut bytes = Vec::new(heap);
+    reader.take(LARGEST_TABLE + 1).read_to_end(&mut bytes)?;
+    if bytes.len() as u64 > LARGEST_TABLE {
+        return Err(NoTable::TooLarge);
+    }
+    Ok(bytes)
+}
+
+// The bytes of a client's file.
+fn table(rt: &HostRuntime, file: &str) -> Result<Vec<u8>, NoTable>
+    ensures { IfOk result (λ bytes. length (vec_items bytes) ≤ 64_000_000) }
+{
+    table_bytes(rt.alloc(), fs::open(rt, file)?)
+}
+
+// That the file of a word cannot be read, with the reason in words; or that there is no memory for these.
+fn unreadable(heap: Global, at: usize, file: &str, why: NoTable) -> NoLimits<'_>
+    ensures { Reads at file.now (no_table_text why) result }
+{
+    match why.to_string(heap) {
+        Ok(why) => NoLimits::Unreadable { at, file, why },
+        Err(failed) => NoLimits::NoMemory(failed),
+    }
+}
+
+// The limit that the first of the words names, whose place is handed in, and how many words that takes.
+fn first_limit<'a>(
+    rt: &HostRuntime,
+    at: usize,
+    words: &[&'a str],
+) -> Result<(ChosenLimit, usize), NoLimits<'a>>
+    requires some { 0 < length words.now }
+    requires names { Names words.now }
+    requires small { at + 1 < 2 ^ 64 }
+    ensures taken { IfOk result (λ p. (0 < p.1) × (p.1 ≤ length words.now)) }
+    ensures named { MatchResult result (λ p. NamedFirst words.now p.0 (drop p.1 words.now) × Names (drop p.1 words.now)) (λ e. OfFile at words.now e) }
+{
+    let limit = match limit_name(words[0]) {
+        Some(LimitName::Comfort) => ChosenLimit::Comfort,
+        Some(LimitName::Transition) => ChosenLimit::Transition,
+        Some(LimitName::Azimuth) => ChosenLimit::Azimuth,
+        Some(LimitName::Shift) => ChosenLimit::Shift,
+        Some(LimitName::Fifth) => ChosenLimit::FifthOfTurn,
+        Some(LimitName::Table) | None => {
+            let file = words[1];
+            return match table(rt, file) {
+                Ok(bytes) => Ok((ChosenLimit::Table(bytes), 2)),
+                Err(why) => Err(unreadable(rt.alloc(), at + 1, file, why)),
+            };
+        }
+    };
+    Ok((limit, 1))
+}
+
+// The limits that the words name, in their order; the first of them stands at place 2 of its line.
 pub(crate) fn named_limits<'a>(
     rt: &HostRuntime,
-    line: &'a str,
-) -> Result<Vec<ChosenLimit>, NoLimits<'a>> {
+    words: &[&'a str],
+) -> Result<Vec<ChosenLimit>, NoLimits<'a>>
+    requires { Names words.now }
+    ensures { MatchResult result (λ limits. NamesLimits words.now (vec_items limits)) (λ e. OfFile 2 words.now e) }
+{
     let mut limits = Vec::new(rt.alloc());
-    let mut words = line.split_whitespace().skip(1);
-    let mut at = 1usize;
-    while let Some(word) = words.next() {
-        at = at.saturating_add(1);
-        let limit = match limit_name(word) {
-            Some(LimitName::Comfort) => ChosenLimit::Comfort,
-            Some(LimitName::Transition) => ChosenLimit::Transition,
-            Some(LimitName::Azimuth) => ChosenLimit::Azimuth,
-            Some(LimitName::Shift) => ChosenLimit::Shift,
-            Some(LimitName::Fifth) => ChosenLimit::FifthOfTurn,
-            Some(LimitName::Table) => {
-                at = at.saturating_add(1);
-                table(rt, at, words.next().unwrap_or(""))?
-            }
-            None => continue,
-        };
+    let mut named = 0;
+    while named < words.len() {
+        let (limit, taken) = first_limit(rt, named + 2, &words[named..])?;
         limits
             .push(limit)
             .map_err(|failed| NoLimits::NoMemory(AllocError::from(failed)))?;
+        named += taken;
     }
     Ok(limits)
-}
-
-// The table of a client's file.
-fn table<'a>(rt: &HostRuntime, at: usize, file: &'a str) -> Result<ChosenLimit, NoLimits<'a>> {
-    match fs::read(rt, file) {
-        Ok(bytes) => Ok(ChosenLimit::Table(bytes)),
-        Err(why) => Err(NoLimits::Unreadable { at, file, why }),
-    }
 }

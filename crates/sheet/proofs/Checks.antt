@@ -36,13 +36,13 @@ module _ (mark : Mark) (road : Road) (count : ℕ) (memory : List RowRecord) (li
     whole P p = subst (λ (xs : List RowRecord). P (map row_of xs)) is p
 
     -- the findings were written
-    checked : (n : ℕ) → length new ≡ length old → Written road limit.admits (map row_of front) old new n → Performs here (check limit (length old)) (found (take n new)) here
+    checked : (n : ℕ) → length new ≡ length old → Written road limit.admits (map row_of front) old new n → Performs here (check limit (length old)) (found n (take n new)) here
     checked n kept by_front =
         let written = whole (λ rows. Written road limit.admits rows old new n) by_front in
         let all : length new ≡ length written.list + length (drop n old) = ap length written.memory ∙ length-append written.list (drop n old) in
         let left = length-drop n old in
         let first : take n new ≡ written.list = ap (take n) written.memory ∙ take_at written.list (drop n old) n (sym written.number) in
-        looked here (check limit (length old)) (found (take n new)) (allowed mark limit (length old)) (
+        looked here (check limit (length old)) (found n (take n new)) (allowed mark limit (length old)) (
           λ short. omega arith,
           (
             λ more.
@@ -51,7 +51,7 @@ module _ (mark : Mark) (road : Road) (count : ℕ) (memory : List RowRecord) (li
             tt,
           ),
         )
-        (written.list, written.findings, ap found first, refl) refl
+        (written.list, written.findings, (λ i. found (written.number i) (first i)), refl) refl
 
     untouched : (n : ℕ) → length new ≡ length old → Written road limit.admits (map row_of front) old new n → Untouched (Ok n) old new
     untouched n kept written =

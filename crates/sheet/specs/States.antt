@@ -77,9 +77,9 @@ abbrev pub after_fit : Result Fitted (Draft × Refusal) → List RowRecord → S
 after_fit (Ok f) memory = fitted_in f memory
 after_fit (Err handed) memory = drafted handed.0 memory
 
--- A check's findings are those that it wrote.
+-- A check answers how many findings it wrote, and which.
 abbrev pub listed : Result ℕ Refusal → List Finding → Answer
-listed (Ok n) findings = found (take n findings)
+listed (Ok n) findings = found n (take n findings)
 listed (Err r) findings = refusal r
 
 -- Past the last finding, and after a refusal everywhere, the findings memory is as it was.

@@ -67,7 +67,7 @@ const NEVER: &[u8] = b"\x00\x06\xdd\xd0\x00\x06\xdd\xd0\x00\x1e\x84\x81";
 // Where no length is admitted, rule 1 is broken, and rule 2 says nothing.
 #[test]
 fn no_least_length(rt: HostRuntime) -> Result<(), Fail> {
-    let limit = ClientTable { bytes: NEVER };
+    let limit = ClientTable::of(NEVER);
     let long = lone(450_000, 300_000, 110_228, 110_228);
     assert_eq!(rt;
         found_under(&limit, Class::C, 100, &long)?,

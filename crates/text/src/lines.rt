@@ -1,6 +1,6 @@
 // The line that is being read.
 ghost use Rattle.std.specs.Prelude.{◌≡◌, ◌≤◌, None, Some, [], ◌∷◌, ◌++◌, length, Decides, MatchOption, IfSome, OnOk, OnErr};
-ghost use Rattle.text.specs.Lines.{Grown, NoNewline};
+ghost use Rattle.text.specs.Lines.{Grown, NoNewline, WithinLongest};
 
 use std::alloc::{AllocError, Global};
 use std::marker::Model;
@@ -49,6 +49,7 @@ impl Pending {
     pub fn add(&mut self, part: &[u8]) -> Result<(), AllocError>
         ensures ok { OnOk result (Grown self.old part.now self.new) }
         ensures err { OnErr result (self.new ≡ self.old) }
+        ensures within { WithinLongest self.old }
     {
         let Some(front) = &mut self.front else {
             return Ok(());

@@ -1,10 +1,11 @@
 // A road and its rows, read from a file of the program's own commands: `road` first, and then `straight` and `curve`.
 use anyhow::{anyhow, bail};
 use commands::command::{Command, SheetCommand};
-use commands::parse::parse_line;
+use commands::parse::{MOST_WORDS, parse};
 use plain::NewRow;
 use road::road::Road;
 use std::fs;
+use text::words::words_of;
 
 #[derive(Drop)]
 pub(crate) struct Alignment {
@@ -17,7 +18,9 @@ pub(crate) fn read_rows(rt: &HostRuntime, file: &str) -> anyhow::Result<Alignmen
     let mut road = None;
     let mut rows = Vec::new(rt.alloc());
     for line in text.as_str().lines() {
-        match parse_line(line) {
+        let mut words = [""; MOST_WORDS];
+        let count = words_of(line, &mut words);
+        match parse(&words[..count]) {
             Ok(None) => {}
             Ok(Some(Command::Road(design))) => road = Some(Road::open(design)?),
             Ok(Some(Command::Sheet(SheetCommand::Add { row, before: None }))) => rows.push(row)?,

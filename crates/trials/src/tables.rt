@@ -22,7 +22,7 @@ const BYTES: &[u8] = b"\
 // The least length of the table at a radius, by its closed form and by questions.
 fn by_table(bytes: &[u8], radius: u32) -> Result<(Option<u32>, Option<u32>), Refusal> {
     let place = example_place(radius, 300_000)?;
-    let limit = ClientTable { bytes };
+    let limit = ClientTable::of(bytes);
     Ok((
         limit.least_length(&place),
         Questioned { limit }.least_length(&place),
@@ -66,7 +66,7 @@ fn cut_short(rt: HostRuntime) -> Result<(), Fail> {
 fn in_a_pile(rt: HostRuntime) -> Result<(), Fail> {
     let pile = Pile {
         first: COMPULSORY,
-        second: ClientTable { bytes: BYTES },
+        second: ClientTable::of(BYTES),
     };
     let table = [
         (400_000, Some(80_000)),

@@ -5,14 +5,14 @@ use Rattle.std.proofs.lemmas.Iterator.Consumers.{YieldsList-end}
 use Rattle.std.proofs.lemmas.List.{flat_map_more, map-id}
 use Rattle.std.proofs.lemmas.Str.{chars_from_encodes}
 use Rattle.std.specs.Str.{chars}
-use Rattle.commands.specs.Shown.{shown_char}
+use Rattle.text.specs.Shown.{shown_char}
 use Rattle.commands.proofs.ShownWords.{shown_front, shown_whole}
 use Rattle.commands.proofs.mistake.write_short.Goals as goal
 
 pub loop-c-preserved : goal.loop-c-preserved
 loop-c-preserved g c = λ plain.
     let so_far = c.loop-c.invariant plain in
-    put_two _ _ _ _ _ _ _ so_far (c.write_shown.ensures so_far.plain (search rules)) (flat_map_more shown_char [] c.loop-c.yielded c.in-Some.c)
+    put_two _ _ _ _ _ _ _ so_far (c.fmt.ensures.writes so_far.plain (search rules)) (flat_map_more shown_char [] c.loop-c.yielded c.in-Some.c)
 
 pub returns-in_ok-write_str : goal.returns-in_ok-write_str
 returns-in_ok-write_str g c =

@@ -1,6 +1,6 @@
 use Rattle.std.specs.Fmt.{HasWritten, IsPlainFormatter}
 use Rattle.std.specs.List.{flat_map}
-use Rattle.commands.specs.Shown.{shown_char}
+use Rattle.text.specs.Shown.{shown_char}
 use Rattle.commands.proofs.mistake.write_short.Given as goal
 
 -- the characters so far are written

@@ -7,4 +7,4 @@ pub returns : goal.returns
 returns c =
     let wanted = c.wanted.result in
     let kept : c.filter.result ≡ cond (leb wanted 2_000_000) (Some wanted) None = search (rules, tests) in
-    rw kept (least_of c.args.self.now.bytes.now c.args.place.now wanted c.wanted.ensures)
+    rw kept (least_of c.args.self.now.entries.now c.args.place.now wanted c.wanted.ensures)
