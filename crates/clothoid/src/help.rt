@@ -105,11 +105,11 @@ Rows are counted from 0.
       0 findings
 
 Numbers are digits only. Blank lines and lines that begin with # are skipped.
-A command whose operands are refused answers 'refused NUMBER ROW: ' with the reason,
-the value that was refused and the line. A line that is no command, or is longer than
-16384 bytes, or speaks of a road before there is any, or names a file that cannot be
-read, or is a command that a fitted sheet or a draft does not have, is wrong, and
-answers 'error LINE: ' and what is wrong with it. Neither changes anything, and the
+A command that the rules refuse answers 'refused NUMBER ROW: ' with the reason, the
+value that was refused and the line. A line that is no command or no UTF-8 text, or is
+longer than 16384 bytes, or speaks of a road before there is any, or names a file that
+cannot be read, or is a command that a fitted sheet or a draft does not have, is wrong,
+and answers 'error LINE: ' and what is wrong with it. Neither changes anything, and the
 lines behind it are still answered, unless --stop is given. At the end standard error
 has how many lines were wrong and how many were refused, with the first of each.
 The status is 0 where no line was wrong or refused; 1 where a line or an argument was
