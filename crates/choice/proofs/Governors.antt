@@ -9,7 +9,7 @@ use Rattle.limits.specs.Admission.{In, UpToLongest, up_to_longest, both}
 use Rattle.limits.specs.All.{all_of, all_lawful}
 use Rattle.limits.specs.Least.{LeastOf}
 use Rattle.limits.proofs.Leasts.{least_both}
-use Rattle.limits.proofs.AllOf.{larger_zero_right, none_smallest}
+use Rattle.limits.proofs.Lists.{larger_zero_right, none_smallest}
 use Rattle.limits.proofs.Leasts.{larger_of}
 use Rattle.norma.specs.Formulas.{comfort, transition, azimuth, shift, compulsory}
 use Rattle.norma.specs.Lawful.{shift_lawful}

@@ -5,17 +5,18 @@ ghost use Rattle.client_table.specs.Tables.{whole_entries, WholeEntries, EachAll
 ghost use Rattle.client_table.specs.Lawful.{table_lawful};
 
 use crate::entry::Entry;
-use limits::limit::{LONGEST, Limit};
+use limits::limit::{LONGEST_CLOTHOID, Limit};
 use limits::place::Place;
 
-// The entries of the client's file, in the memory that it was loaded into; they are borrowed and never copied.
+/// The entries of the client's file, in the memory that it was loaded into; they are borrowed and never copied.
 #[derive(Clone, Copy)]
 pub struct ClientTable<'a> {
+    /// twelve bytes each, in the order of the file
     pub entries: &'a [[u8; Entry::BYTES]],
 }
 
 impl<'a> ClientTable<'a> {
-    // The table of a file's bytes. A last entry cut short does not count.
+    /// The table of a file's bytes. A last entry cut short does not count.
     pub fn of(bytes: &'a [u8]) -> ClientTable<'a>
         ensures value { result.entries.now ≡ whole_entries bytes.now }
         ensures places { WholeEntries bytes.now result.entries.now }
@@ -45,7 +46,7 @@ impl Limit for ClientTable<'_> {
         ensures set { result ≡ table self.now.entries.now place.now length }
         ensures entries { ByEntries self.now.entries.now place.now length result }
     {
-        length <= LONGEST
+        length <= LONGEST_CLOTHOID
             && self
                 .entries
                 .iter()
@@ -53,6 +54,6 @@ impl Limit for ClientTable<'_> {
     }
 
     fn least_length(&self, place: &Place) -> Option<u32> {
-        Some(self.wanted(place.radius)).filter(|least| *least <= LONGEST)
+        Some(self.wanted(place.radius)).filter(|least| *least <= LONGEST_CLOTHOID)
     }
 }

@@ -1,4 +1,4 @@
-// The label of a curve: how long its clothoids must be, and why.
+//! The label of a curve: how long its clothoids must be, and why.
 #![tactic(auto)]
 
 ghost use Rattle.label.specs.Labels.{Labelled, ParameterOf};
@@ -15,18 +15,24 @@ use road::refusal::Refusal;
 use road::road::Road;
 use roots::clothoid_parameter;
 
-#[derive(Clone, Copy)]
+/// What a drawing says of the clothoids of a curve. A least length is `None` where nothing is admitted.
+#[derive(Clone, Copy, PartialEq, Eq, Debug)]
 pub struct Label {
-    // hundredths of a percent
+    /// hundredths of a percent
     pub superelevation: u32,
-    // the least length under each limit, mm
+    /// the least length for comfort, mm
     pub comfort: Option<u32>,
+    /// the least length for the transition of the superelevation, mm
     pub transition: Option<u32>,
+    /// the least length for the azimuth, mm
     pub azimuth: Option<u32>,
+    /// the least length for the shift, mm
     pub shift: Option<u32>,
+    /// the least length for a fifth of the turn, mm
     pub fifth: Option<u32>,
-    // the least length under the compulsory pile, and the clothoid's parameter there, mm
+    /// the least length under the compulsory pile, mm
     pub least: Option<u32>,
+    /// the clothoid's parameter at that length, mm
     pub parameter: Option<u32>,
 }
 
@@ -38,7 +44,7 @@ fn parameter_at(radius: u32, length: Option<u32>) -> Option<u32>
 }
 
 impl Label {
-    // The label of a curve of that radius and turn, or which of the two is outside its range.
+    /// The label of a curve of that radius (mm) and turn (ten-thousandths of a gon), or the refusal of the first of the two that is outside its range: 4, 5.
     pub fn at(road: &Road, radius: u32, turn: u32) -> Result<Label, Refusal>
         ensures { Labelled road.now radius turn result }
     {

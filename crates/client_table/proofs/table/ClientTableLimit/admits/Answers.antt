@@ -13,13 +13,13 @@ is_table c =
     let length = c.args.length in
     let entries = c.args.self.now.entries.now in
     let asked = all_from_yields_List (λ entry. allows (read entry) radius length) _ _ c.all.result c.all.ensures.ran (YieldsList-from_slice entries cc) (λ x b q k. search (rules, tests)) in
-    asked ∙ sym (cond-true (leb length 2_000_000) (each_allows entries radius length) false (le-leb length 2_000_000 c.if-length-le-LONGEST.true))
+    asked ∙ sym (cond-true (leb length 2_000_000) (each_allows entries radius length) false (le-leb length 2_000_000 c.if-length-le-LONGEST_CLOTHOID.true))
 
-pub returns-then-length-le-LONGEST-clause-set : goal.returns-then-length-le-LONGEST-clause-set
-returns-then-length-le-LONGEST-clause-set c = is_table c
+pub returns-then-length-le-LONGEST_CLOTHOID-clause-set : goal.returns-then-length-le-LONGEST_CLOTHOID-clause-set
+returns-then-length-le-LONGEST_CLOTHOID-clause-set c = is_table c
 
-pub returns-then-length-le-LONGEST-clause-entries : goal.returns-then-length-le-LONGEST-clause-entries
-returns-then-length-le-LONGEST-clause-entries c =
+pub returns-then-length-le-LONGEST_CLOTHOID-clause-entries : goal.returns-then-length-le-LONGEST_CLOTHOID-clause-entries
+returns-then-length-le-LONGEST_CLOTHOID-clause-entries c =
     let entries = c.args.self.now.entries.now in
     let place = c.args.place.now in
     subst (ByEntries entries place c.args.length) (sym (is_table c)) (by_entries entries place c.args.length)
