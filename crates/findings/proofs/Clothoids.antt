@@ -8,7 +8,7 @@ use Rattle.road.specs.declared.road.Road.{Road}
 use Rattle.rows.proofs.Leasts.{is_least_in}
 use Rattle.rows.specs.declared.row.Curve.{Curve}
 use Rattle.rows.specs.declared.row.Row.TheVariants as row
-use Rattle.rows.specs.Curves.{place_of, calls_below_lem, Calling}
+use Rattle.rows.specs.Curves.{place_of, Calling}
 use Rattle.findings.specs.declared.walk.Clothoids.TheVariants.{Called}
 use Rattle.findings.specs.Rules.{Admission}
 use Rattle.findings.specs.Walk.{calls, clothoids_of}
@@ -18,8 +18,8 @@ decides_leb a b = (leb-true a b, le-leb a b)
 
 pub decides_calls : (road : Road) (c : Curve) → Decides (calls road c) (Calling road c)
 decides_calls road c =
-    Decides-and (leb 60_000 c.turn) (ltb c.radius (calls_below_lem road.group)) (decides_leb 60_000 c.turn)
-    (Decides-ltb c.radius (calls_below_lem road.group))
+    Decides-and (leb 60_000 c.turn) (ltb c.radius road.free_radius) (decides_leb 60_000 c.turn)
+    (Decides-ltb c.radius road.free_radius)
 
 -- the least length of a curve that calls, as it was answered
 pub called_is : (road : Road) (admission : Admission) (c : Curve) (b : Bool) (least : Option ℕ) → UpToLongest (admission (place_of road c))

@@ -2,10 +2,6 @@
 use Rattle.std.proofs.Common.{◌≡◌, ℕ, ◌+◌, ◌-◌, ◌*◌, ◌<◌, ◌≤◌, Bool, true, false, cond, ◌&&◌, ltb, leb, List, [], Some, None, Decides, Option, sym, refl, ap, ◌∙◌, arith}
 use Rattle.std.proofs.lemmas.Bool.{false≢true, both_ways, leb-true, ltb-true, le-leb, lt-ltb, eqb-true, eq-eqb, and_parts, and_from}
 use Rattle.std.proofs.lemmas.Bool.Decides.{Decides-at, Decides-like, Decides-not, Decides-and, Decides-ltb, Decides-eqb}
-use Rattle.superelevation.specs.declared.group.Group.{Group}
-use Rattle.superelevation.specs.declared.group.Group.TheVariants.{One, Two, Three}
-use Rattle.road.specs.declared.class.Class.{Class}
-use Rattle.road.specs.declared.class.Class.TheVariants.{A, M, C}
 use Rattle.road.specs.declared.road.Road.{Road}
 use Rattle.limits.specs.declared.place.Place.{Place}
 use Rattle.limits.specs.Admission.{In, UpToLongest}
@@ -22,8 +18,8 @@ use Rattle.findings.specs.declared.kind.Kind.TheVariants.{UnadmittedEntry, Unadm
 use Rattle.findings.specs.declared.walk.Clothoids.TheVariants.{Uncalled, Called}
 use Rattle.findings.specs.declared.walk.Stretch.{Stretch}
 use Rattle.findings.specs.Around.{total, EndWith, BeginWith, RunBegins, RunGoesOn}
-use Rattle.findings.specs.Rules.{Admission, Symmetric, Harmonious, Follows, shortest_run_lem, longest_run_lem, BrokenByCurve, BrokenByStraight, Broken}
-use Rattle.findings.specs.Walk.{nothing, reached, begins, calls, symmetric, harmonious, discordant, disharmonious, strays, conventional, short_between, context_of, curve_breaks_lem, straight_breaks_lem, breaks}
+use Rattle.findings.specs.Rules.{Admission, Harmonious, Follows, shortest_run_lem, longest_run_lem, BrokenByCurve, BrokenByStraight, Broken}
+use Rattle.findings.specs.Walk.{nothing, reached, begins, calls, harmonious, discordant, disharmonious, strays, short_between, context_of, curve_breaks_lem, straight_breaks_lem, breaks}
 use Rattle.findings.proofs.Around.{walked, behind_has, behind_is, just_before, run_begins, begins_has, ahead_has, ahead_is, run_has, run_is}
 use Rattle.findings.proofs.Clothoids.{decides_leb, decides_calls}
 use Rattle.findings.proofs.Followed.{decides_follows}
@@ -38,15 +34,8 @@ decides_not_above a b = (λ e h. let le = leb-true a b e in omega arith, λ h. l
 decides_not_up_to : (a b : ℕ) → Decides (ltb b a) (a ≤ b → ⊥)
 decides_not_up_to a b = (λ e h. let lt = ltb-true b a e in omega arith, λ h. lt-ltb b a (omega (arith, h)))
 
-decides_symmetric : (group : Group) → Decides (symmetric group) (Symmetric group)
-decides_symmetric One = (λ _. tt, λ _. refl)
-decides_symmetric Two = (λ _. tt, λ _. refl)
-decides_symmetric Three = decides_never
-
-decides_conventional : (class : Class) → Decides (conventional class) (class ≡ C)
-decides_conventional A = (λ e. absurd (false≢true e), λ e. absurd (let z : ◌≡◌ {A = ℕ} 0 1 = cc in omega arith))
-decides_conventional M = (λ e. absurd (false≢true e), λ e. absurd (let z : ◌≡◌ {A = ℕ} 0 1 = cc in omega arith))
-decides_conventional C = (λ _. refl, λ _. refl)
+decides_true : (b : Bool) → Decides b (b ≡ true)
+decides_true b = (λ e. e, λ e. e)
 
 decides_harmonious : (exit entry : ℕ) → Decides (harmonious exit entry) (Harmonious exit entry)
 decides_harmonious exit entry = Decides-and _ _ (decides_leb (2 * entry) (3 * exit)) (decides_leb (2 * exit) (3 * entry))
@@ -156,14 +145,14 @@ module _ (road : Road) (admission : Admission) (lawful : (place : Place) → UpT
     curve_decides LongExit = decides_too_long _ c.exit test_here (calls road c) (least_in test_here) (decides_calls road c) least_here
     curve_decides UncalledEntry = decides_uncalled _ c.entry test_here (calls road c) (least_in test_here) (decides_calls road c)
     curve_decides UncalledExit = decides_uncalled _ c.exit test_here (calls road c) (least_in test_here) (decides_calls road c)
-    curve_decides Unequal = Decides-and _ _ (decides_symmetric road.group) (Decides-not _ (Decides-eqb c.entry c.exit))
+    curve_decides Unequal = Decides-and _ _ (decides_true road.symmetric) (Decides-not _ (Decides-eqb c.entry c.exit))
     curve_decides Disharmony = disharmony_decides
     curve_decides NoArc = decides_not_above (c.turn * c.radius) (318_300 * (c.entry + c.exit))
     curve_decides TightRadius = Decides-ltb c.radius road.least_radius
     curve_decides NextRadius =
         behind_decides (λ o n. strays road o n c) (λ b n. Follows road n b.radius c.radius → ⊥) (λ n. refl) strays_from before
     curve_decides ReturnRadius =
-        Decides-and _ _ (decides_conventional road.class)
+        Decides-and _ _ (decides_true road.both_senses)
         (ahead_decides (λ o n. strays road o n c) (λ d n. Follows road n d.radius c.radius → ⊥) (λ n. refl) strays_from after)
     curve_decides SmallTurn =
         Decides-and _ _ (Decides-ltb c.turn 60_000) (decides_not_up_to (1_591_500 * (130_000 - c.turn)) (c.radius * c.turn))

@@ -3,7 +3,7 @@ use Rattle.std.proofs.Common.{◌≡◌, ℕ, ◌+◌, ◌*◌, ◌<◌, ◌≤�
 use Rattle.std.proofs.lemmas.Bool.{leb-true, leb-false, ltb-true, ltb-false}
 use Rattle.std.proofs.lemmas.Bool.Decides.{Decides-and, Decides-like, Decides-ltb}
 use Rattle.road.specs.declared.road.Road.{Road}
-use Rattle.findings.specs.Rules.{limited_length_lem, radius_after_run_lem, Tabled, Follows}
+use Rattle.findings.specs.Rules.{Tabled, Follows}
 use Rattle.findings.specs.Walk.{tabled, follows}
 use Rattle.findings.proofs.Clothoids.{decides_leb}
 
@@ -77,9 +77,9 @@ module _ (r next : ℕ) where
 
 pub decides_follows : (road : Road) (run r next : ℕ) → Decides (follows road run r next) (Follows road run r next)
 decides_follows road run r next =
-    decides_cond (leb run (limited_length_lem road.speed)) (tabled r next) _
-    (λ e. let within = leb-true run (limited_length_lem road.speed) e in
+    decides_cond (leb run road.limited_run) (tabled r next) _
+    (λ e. let within = leb-true run road.limited_run e in
     Decides-like _ (λ t. record { near = λ _. t; far = λ longer. absurd (let z : ⊥ = omega arith in z) }) (λ f. f.near within) (decides_tabled r next))
-    (λ e. let longer = leb-false run (limited_length_lem road.speed) e in
+    (λ e. let longer = leb-false run road.limited_run e in
     Decides-like _ (λ wide. record { near = λ within. absurd (let z : ⊥ = omega arith in z); far = λ _. wide }) (λ f. f.far longer)
-    (decides_leb (radius_after_run_lem road.group road.least_radius) next))
+    (decides_leb road.radius_after_run next))

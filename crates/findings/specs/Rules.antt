@@ -1,9 +1,6 @@
 -- The twelve rules: when each kind of finding is given for a row, by the rows before it and the rows after it.
 -- Lengths and radii in mm, turns in ten-thousandths of a gon, speeds in km/h.
-use Rattle.std.specs.Prelude.{◌≡◌, ℕ, ◌+◌, ◌-◌, ◌*◌, ◌<◌, ◌≤◌, Bool, cond, List, [], ◌==◌, ◌≢◌, nat_le}
-use Rattle.superelevation.specs.declared.group.Group.{Group}
-use Rattle.superelevation.specs.declared.group.Group.TheVariants.{One, Two, Three}
-use Rattle.road.specs.declared.class.Class.TheVariants.{C}
+use Rattle.std.specs.Prelude.{◌≡◌, ℕ, ◌+◌, ◌-◌, ◌*◌, ◌<◌, ◌≤◌, Bool, true, List, [], ◌≢◌}
 use Rattle.road.specs.declared.road.Road.{Road}
 use Rattle.limits.specs.declared.place.Place.{Place}
 use Rattle.limits.specs.Admission.{In}
@@ -23,12 +20,6 @@ use Rattle.findings.specs.Around.{total, EndWith, BeginWith, RunBegins, RunGoesO
 abbrev pub Admission : Type 0
 Admission = Place → ℕ → Bool
 
--- Rule 4 holds the clothoids of a curve to equal lengths in groups 1 and 2.
-abbrev pub Symmetric : Group → Type 0
-Symmetric One = Unit {0}
-Symmetric Two = Unit {0}
-Symmetric Three = ⊥
-
 -- An exit and the next entry in harmony: neither is above one and a half times the other.
 abbrev pub Harmonious : (exit entry : ℕ) → Type 0
 Harmonious exit entry = (2 * entry ≤ 3 * exit) × (2 * exit ≤ 3 * entry)
@@ -37,31 +28,17 @@ Harmonious exit entry = (2 * entry ≤ 3 * exit) × (2 * exit ≤ 3 * entry)
 abbrev pub LeavesArc : Curve → Type 0
 LeavesArc c = 318_300 * (c.entry + c.exit) < c.turn * c.radius
 
--- The longest run over which consecutive radii are judged by the table, by the speed (Table 4.2).
-abbrev pub limited_length_lem : ℕ → ℕ
-limited_length_lem speed =
-    cond (nat_le 100 speed) 400_000
-    (cond (speed == 90) 300_000
-    (cond (speed == 80) 230_000
-    (cond (speed == 70) 175_000 (cond (speed == 60) 85_000 (cond (speed == 50) 50_000 30_000)))))
-
--- Consecutive radii r, then next, by Table 4.7.
+-- Consecutive radii r, then next, by Table 4.7, which says nothing of radii below 50 m.
 pub record Tabled (r next : ℕ) : Type 0 where
   pub tight : 50_000 ≤ r → r ≤ 450_000 → (50 * r + 600_600 ≤ 77 * next) × (80 * next + 1_152_000 < 127 * r)
   pub middle : 450_000 < r → r ≤ 700_000 → (40 * r + 22_504_500 ≤ 135 * next) × (25 * next + 32_000_000 < 110 * r)
   pub wide : 700_000 < r → r ≤ 1_800_000 → 40 * r + 22_504_500 ≤ 135 * next
   pub widest : 1_800_000 < r → 700_000 ≤ next
 
--- The least radius after a run that is longer.
-abbrev pub radius_after_run_lem : Group → (least : ℕ) → ℕ
-radius_after_run_lem One least = least
-radius_after_run_lem Two least = 700_000
-radius_after_run_lem Three least = 2 * least
-
 -- The radius r may be followed by next, over a run of that length (0 where there is none).
 pub record Follows (road : Road) (run r next : ℕ) : Type 0 where
-  pub near : run ≤ limited_length_lem road.speed → Tabled r next
-  pub far : limited_length_lem road.speed < run → radius_after_run_lem road.group road.least_radius ≤ next
+  pub near : run ≤ road.limited_run → Tabled r next
+  pub far : road.limited_run < run → road.radius_after_run ≤ next
 
 -- The shortest run between two curves, by their senses.
 abbrev pub shortest_run_lem : Sense → Sense → (speed : ℕ) → ℕ
@@ -94,8 +71,8 @@ module _ (road : Road) (admission : Admission) where
   -- 3: other curves have lengths of 0
   BrokenByCurve UncalledEntry before c after = (Calling road c → ⊥) × (c.entry ≢ 0)
   BrokenByCurve UncalledExit before c after = (Calling road c → ⊥) × (c.exit ≢ 0)
-  -- 4: in groups 1 and 2 entry equals exit
-  BrokenByCurve Unequal before c after = Symmetric road.group × (c.entry ≢ c.exit)
+  -- 4: on a symmetric road entry equals exit
+  BrokenByCurve Unequal before c after = (road.symmetric ≡ true) × (c.entry ≢ c.exit)
   -- 5: neighbouring calling curves are in harmony
   BrokenByCurve Disharmony before c after =
       Calling road c × ((b : Curve) × EndWith before b [] × Calling road b × (Harmonious b.exit c.entry → ⊥))
@@ -103,11 +80,11 @@ module _ (road : Road) (admission : Admission) where
   BrokenByCurve NoArc before c after = LeavesArc c → ⊥
   -- 7: the radius is at least the road's least
   BrokenByCurve TightRadius before c after = c.radius < road.least_radius
-  -- 8: the radius follows that of the curve before, and on class C in the return sense that of the curve after
+  -- 8: the radius follows that of the curve before, and on a road judged in both senses in the return sense that of the curve after
   BrokenByCurve NextRadius before c after =
       (b : Curve) × (ss : List Straight) × EndWith before b ss × (Follows road (total ss) b.radius c.radius → ⊥)
   BrokenByCurve ReturnRadius before c after =
-      (road.class ≡ C) × ((d : Curve) × (ss : List Straight) × BeginWith after ss d × (Follows road (total ss) d.radius c.radius → ⊥))
+      (road.both_senses ≡ true) × ((d : Curve) × (ss : List Straight) × BeginWith after ss d × (Follows road (total ss) d.radius c.radius → ⊥))
   -- 9: a curve of a small turn is wide enough
   BrokenByCurve SmallTurn before c after = (c.turn < 60_000) × (1_591_500 * (130_000 - c.turn) ≤ c.radius * c.turn → ⊥)
   BrokenByCurve ShortRun before c after = ⊥

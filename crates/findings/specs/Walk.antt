@@ -1,16 +1,12 @@
 -- The findings, computed row by row. Only private contracts cite this; proofs/ tie it to the rules.
 use Rattle.std.specs.Prelude.{ℕ, ◌+◌, ◌-◌, ◌*◌, Bool, true, false, cond, not, ◌&&◌, List, [], ◌∷◌, ◌++◌, Some, None, Option, ◌==◌, nat_le, nat_lt}
 use Rattle.std.specs.List.{count_by}
-use Rattle.superelevation.specs.declared.group.Group.{Group}
-use Rattle.superelevation.specs.declared.group.Group.TheVariants.{One, Two, Three}
-use Rattle.road.specs.declared.class.Class.{Class}
-use Rattle.road.specs.declared.class.Class.TheVariants.{A, M, C}
 use Rattle.road.specs.declared.road.Road.{Road}
 use Rattle.rows.specs.declared.row.Curve.{Curve}
 use Rattle.rows.specs.declared.row.Row.{Row}
 use Rattle.rows.specs.declared.row.Row.TheVariants as row
 use Rattle.rows.specs.declared.row.Straight.{Straight}
-use Rattle.rows.specs.Curves.{place_of, calls_below_lem}
+use Rattle.rows.specs.Curves.{place_of}
 use Rattle.rows.specs.Leasts.{least_in}
 use Rattle.findings.specs.declared.finding.Finding.{Finding}
 use Rattle.findings.specs.declared.kind.Kind.{Kind}
@@ -19,7 +15,7 @@ use Rattle.findings.specs.declared.walk.Clothoids.{Clothoids}
 use Rattle.findings.specs.declared.walk.Clothoids.TheVariants.{Uncalled, Called}
 use Rattle.findings.specs.declared.walk.Context.{Context}
 use Rattle.findings.specs.declared.walk.Stretch.{Stretch}
-use Rattle.findings.specs.Rules.{Admission, limited_length_lem, radius_after_run_lem, shortest_run_lem, longest_run_lem}
+use Rattle.findings.specs.Rules.{Admission, shortest_run_lem, longest_run_lem}
 use Rattle.findings.specs.Findings.{finding_of}
 
 -- What lies behind the first row.
@@ -48,7 +44,7 @@ looks behind (row.Curve c) = true
 
 -- Whether a curve calls for clothoids.
 abbrev pub calls : Road → Curve → Bool
-calls road c = nat_le 60_000 c.turn && nat_lt c.radius (calls_below_lem road.group)
+calls road c = nat_le 60_000 c.turn && nat_lt c.radius road.free_radius
 
 -- What the clothoids of a row are held to.
 abbrev pub clothoids_of : Road → Admission → Row → Clothoids
@@ -75,13 +71,8 @@ abbrev pub uncalled_for : Clothoids → ℕ → Bool
 uncalled_for Uncalled length = not (length == 0)
 uncalled_for (Called least) length = false
 
-abbrev pub symmetric : Group → Bool
-symmetric One = true
-symmetric Two = true
-symmetric Three = false
-
 abbrev pub unequal : Road → Curve → Bool
-unequal road c = symmetric road.group && not (c.entry == c.exit)
+unequal road c = road.symmetric && not (c.entry == c.exit)
 
 abbrev pub harmonious : (exit entry : ℕ) → Bool
 harmonious exit entry = nat_le (2 * entry) (3 * exit) && nat_le (2 * exit) (3 * entry)
@@ -106,16 +97,11 @@ tabled r next =
 
 abbrev pub follows : Road → (run r next : ℕ) → Bool
 follows road run r next =
-    cond (nat_le run (limited_length_lem road.speed)) (tabled r next) (nat_le (radius_after_run_lem road.group road.least_radius) next)
+    cond (nat_le run road.limited_run) (tabled r next) (nat_le road.radius_after_run next)
 
 abbrev pub strays : Road → Option Curve → ℕ → Curve → Bool
 strays road None run c = false
 strays road (Some b) run c = not (follows road run b.radius c.radius)
-
-abbrev pub conventional : Class → Bool
-conventional A = false
-conventional M = false
-conventional C = true
 
 abbrev pub cramped : Curve → Bool
 cramped c = nat_lt c.turn 60_000 && nat_lt (c.radius * c.turn) (1_591_500 * (130_000 - c.turn))
@@ -138,7 +124,7 @@ curve_breaks_lem road Disharmony at c = disharmonious road at.clothoids at.behin
 curve_breaks_lem road NoArc at c = arcless c
 curve_breaks_lem road TightRadius at c = nat_lt c.radius road.least_radius
 curve_breaks_lem road NextRadius at c = strays road at.behind.curve at.behind.run c
-curve_breaks_lem road ReturnRadius at c = conventional road.class && strays road at.ahead.curve at.ahead.run c
+curve_breaks_lem road ReturnRadius at c = road.both_senses && strays road at.ahead.curve at.ahead.run c
 curve_breaks_lem road SmallTurn at c = cramped c
 curve_breaks_lem road ShortRun at c = false
 curve_breaks_lem road LongRun at c = false

@@ -2,7 +2,6 @@
 ghost use Rattle.std.specs.Prelude.{◌≡◌};
 ghost use Rattle.findings.specs.Walk.{tabled, follows};
 
-use crate::figures::{limited_length, radius_after_run};
 use road::road::Road;
 
 // Table 4.7; it says nothing of radii below 50 m. The crate `radii` turns it into ranges, by divisions that a test does without.
@@ -28,9 +27,9 @@ fn is_tabled(radius: u32, next: u32) -> bool
 pub(crate) fn follows_radius(road: &Road, run: u64, radius: u32, next: u32) -> bool
     ensures { result ≡ follows road.now run radius next }
 {
-    if run <= limited_length(road.speed) {
+    if run <= road.limited_run as u64 {
         is_tabled(radius, next)
     } else {
-        radius_after_run(road) <= next
+        road.radius_after_run <= next
     }
 }

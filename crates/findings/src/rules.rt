@@ -1,16 +1,14 @@
 // The tests of the rules.
 ghost use Rattle.std.specs.Prelude.{◌≡◌, nat_lt};
 ghost use Rattle.findings.specs.Rules.{longest_run_lem};
-ghost use Rattle.findings.specs.Walk.{unadmitted, is_too_long, uncalled_for, unequal, harmonious, discordant, disharmonious, arcless, strays, conventional, cramped, short_between, begins, curve_breaks_lem, straight_breaks_lem, breaks};
+ghost use Rattle.findings.specs.Walk.{unadmitted, is_too_long, uncalled_for, unequal, harmonious, discordant, disharmonious, arcless, strays, cramped, short_between, begins, curve_breaks_lem, straight_breaks_lem, breaks};
 
 use crate::figures::{longest_run, shortest_run};
 use crate::kind::Kind;
 use crate::radii::follows_radius;
 use crate::walk::{Clothoids, Context, Stretch};
-use road::class::Class;
 use road::road::Road;
 use rows::row::{Curve, Row, Straight};
-use superelevation::group::Group;
 
 // Rule 1. A length is admitted from the least on.
 fn is_unadmitted(clothoids: Clothoids, length: u32) -> bool
@@ -47,7 +45,7 @@ fn is_uncalled_for(clothoids: Clothoids, length: u32) -> bool
 fn is_unequal(road: &Road, curve: Curve) -> bool
     ensures { result ≡ unequal road.now curve }
 {
-    road.group != Group::Three && curve.entry != curve.exit
+    road.symmetric && curve.entry != curve.exit
 }
 
 fn are_harmonious(exit: u32, entry: u32) -> bool
@@ -141,7 +139,7 @@ impl Context {
             Kind::NoArc => leaves_no_arc(curve),
             Kind::TightRadius => curve.radius < road.least_radius,
             Kind::NextRadius => radius_strays(road, self.behind, curve),
-            Kind::ReturnRadius => road.class == Class::C && radius_strays(road, self.ahead, curve),
+            Kind::ReturnRadius => road.both_senses && radius_strays(road, self.ahead, curve),
             Kind::SmallTurn => is_cramped(curve),
             Kind::SlightTurn => curve.turn < 20_000,
             Kind::ShortRun | Kind::LongRun => false,

@@ -14,7 +14,7 @@ use Rattle.rows.specs.Curves.{place_of}
 use Rattle.rows.specs.Leasts.{first_in, least_in}
 use Rattle.rows.specs.Reading.{row_of}
 use Rattle.findings.specs.Rules.{Admission}
-use Rattle.findings.specs.Walk.{calls, symmetric}
+use Rattle.findings.specs.Walk.{calls}
 use Rattle.fitting.specs.declared.demand.Demand.{Demand}
 use Rattle.fitting.specs.declared.demand.Demand.TheVariants.{Free, Called}
 use Rattle.fitting.specs.declared.demand.Lengths.{Lengths}
@@ -178,7 +178,7 @@ module _ (road : Road) (admission : Admission) where
   first_by true a c h =
       let l = least_within (admission (place_of road c)) in
       let e : max a (low_lem (least_in (admission (place_of road c)))) ≤ 2_000_000 = omega arith in
-      (e, either_within (symmetric road.group) _ _ (omega arith) l)
+      (e, either_within road.symmetric _ _ (omega arith) l)
   first_by false a c h = (omega arith, omega arith)
 
   first_short : (a : ℕ) (r : Row) → a ≤ 2_000_000 → Short (first a (demand road admission r))
@@ -191,7 +191,7 @@ module _ (road : Road) (admission : Admission) where
   raised_by : (t : Bool) (a : ℕ) (c : Curve) → a ≤ 2_000_000 → Short (raised a (cond t (Called (bounds road admission c)) Free) (lengths (row.Curve c)))
   raised_by true a c h =
       let e : max a c.exit ≤ 2_000_000 = omega (arith, c.within.1.1.1) in
-      (either_within (symmetric road.group) _ _ e c.within.1.1.0, e)
+      (either_within road.symmetric _ _ e c.within.1.1.0, e)
   raised_by false a c h = c.within.1.1
 
   raised_row : (a : ℕ) (r : Row) → a ≤ 2_000_000 → Short (raised a (demand road admission r) (lengths r))

@@ -2,8 +2,6 @@
 use Rattle.std.proofs.Common.{◌≡◌, ℕ, ◌+◌, ◌-◌, ◌*◌, ◌/◌, ◌<◌, ◌≤◌, Bool, true, false, cond, T, List, [], ◌∷◌, ◌++◌, map, length, Some, None, Decides, Option, sym, refl, ap, ◌∙◌, subst, inl, inr, length-append, mul-pos, append_assoc, append-nil, lit≤, arith}
 use Rattle.std.proofs.lemmas.Bool.{false≢true, cases_lt, cases_eq}
 use Rattle.std.proofs.lemmas.List.{same_from_push}
-use Rattle.superelevation.specs.declared.group.Group.{Group}
-use Rattle.superelevation.specs.declared.group.Group.TheVariants.{One, Two, Three}
 use Rattle.road.specs.declared.road.Road.{Road}
 use Rattle.limits.specs.declared.place.Place.{Place}
 use Rattle.limits.specs.Admission.{In, UpToLongest}
@@ -20,8 +18,8 @@ use Rattle.findings.specs.declared.kind.Kind.{Kind}
 use Rattle.findings.specs.declared.kind.Kind.TheVariants.{UnadmittedEntry, UnadmittedExit, LongEntry, LongExit, UncalledEntry, UncalledExit, Unequal, Disharmony, NoArc, ShortRun, LongRun}
 use Rattle.findings.specs.Around.{EndWith}
 use Rattle.findings.specs.Findings.{rule_number, rule_of, finding_of}
-use Rattle.findings.specs.Rules.{Admission, Symmetric, LeavesArc, BrokenByCurve, Broken}
-use Rattle.findings.specs.Walk.{calls, symmetric}
+use Rattle.findings.specs.Rules.{Admission, LeavesArc, BrokenByCurve, Broken}
+use Rattle.findings.specs.Walk.{calls}
 use Rattle.findings.proofs.Clothoids.{decides_calls}
 use Rattle.plain.specs.Lengths.{Keeps}
 use Rattle.fitting.specs.declared.demand.Demand.TheVariants.{Free, Called}
@@ -61,15 +59,12 @@ module _ (test : ℕ → Bool) where
       over (omega (arith, w.2, smallest.least m least.admitted, least.least n smallest.admitted))
 
 -- rule 4
-pub symmetric_in : (group : Group) → Symmetric group → T (symmetric group)
-symmetric_in One h = tt
-symmetric_in Two h = tt
-symmetric_in Three h = h
+symmetric_in : (b : Bool) → b ≡ true → T b
+symmetric_in b e = subst T (sym e) tt
 
-pub symmetric_out : (group : Group) → T (symmetric group) → Symmetric group
-symmetric_out One h = tt
-symmetric_out Two h = tt
-symmetric_out Three h = h
+symmetric_out : (b : Bool) → T b → b ≡ true
+symmetric_out true h = refl
+symmetric_out false h = absurd h
 
 -- rule 6, by the room that the curve has
 room_in : (k n : ℕ) → 318_300 * n < k → n ≤ (k - 1) / 318_300
@@ -170,7 +165,7 @@ module _ (road : Road) (admission : Admission) (lawful : (place : Place) → UpT
           at_exit =
               within_in (test_at c) (least_in (test_at c)) c.exit (lawful (place_of road c)) (least_at c)
               (not_refused _ (λ never. sound UnadmittedExit (lit≤ tt) (here, never))) (λ long. sound LongExit (lit≤ tt) (here, long));
-          even = λ t. not_apart c.entry c.exit (λ n. sound Unequal (lit≤ tt) (symmetric_out road.group t, n));
+          even = λ t. not_apart c.entry c.exit (λ n. sound Unequal (lit≤ tt) (symmetric_out road.symmetric t, n));
           arc = arc_in c (not_below _ _ (sound NoArc (lit≤ tt)));
         },
       )
@@ -195,7 +190,7 @@ module _ (road : Road) (admission : Admission) (lawful : (place : Place) → UpT
       within_short (test_at c) (least_in (test_at c)) c.exit (least_at c) keeps.1.at_exit long
   called_sound p before c after here behind keeps UncalledEntry low (uncalled, _) = uncalled here
   called_sound p before c after here behind keeps UncalledExit low (uncalled, _) = uncalled here
-  called_sound p before c after here behind keeps Unequal low (even, n) = n (keeps.1.even (symmetric_in road.group even))
+  called_sound p before c after here behind keeps Unequal low (even, n) = n (keeps.1.even (symmetric_in road.symmetric even))
   called_sound p before c after here behind keeps Disharmony low broken = harmony_out road admission p before c after behind keeps.0 broken
   called_sound p before c after here behind keeps NoArc low never = never (arc_out c keeps.1.arc)
   called_sound p before c after here behind keeps _ low broken = omega (arith, low)

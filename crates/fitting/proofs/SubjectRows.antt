@@ -10,11 +10,11 @@ use Rattle.rows.specs.declared.row.Curve.{Curve}
 use Rattle.rows.specs.declared.row.Row.{Row}
 use Rattle.rows.specs.declared.row.Row.TheVariants as row
 use Rattle.rows.specs.Bounded.{within_top}
-use Rattle.rows.specs.Curves.{place_of, calls_below_lem}
+use Rattle.rows.specs.Curves.{place_of}
 use Rattle.rows.specs.Leasts.{least_in}
 use Rattle.rows.specs.Ranges.{InRange}
 use Rattle.findings.specs.Rules.{Admission}
-use Rattle.findings.specs.Walk.{calls, symmetric}
+use Rattle.findings.specs.Walk.{calls}
 use Rattle.plain.specs.Lengths.{AlikeRow, Alike, NoLongerRow, NoLonger, Keeps, LeastLengths, SomeLengths, NoLengths, FirstWithout}
 use Rattle.fitting.specs.declared.demand.Demand.{Demand}
 use Rattle.fitting.specs.declared.demand.Demand.TheVariants.{Free, Called}
@@ -94,11 +94,11 @@ module _ (road : Road) (admission : Admission) where
   alike_demand (row.Curve c) (row.Curve d) (sense, radius, turn) =
       let place = same_place road c d radius turn in
       λ i.
-      cond (nat_le 60_000 (turn i) && nat_lt (radius i) (calls_below_lem road.group))
+      cond (nat_le 60_000 (turn i) && nat_lt (radius i) road.free_radius)
       (Called (record {
         entry = least_in (admission (place i));
         exit = least_in (admission (place i));
-        even = symmetric road.group;
+        even = road.symmetric;
         room = (turn i * radius i - 1) / 318_300;
       })) Free
 

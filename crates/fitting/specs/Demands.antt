@@ -7,7 +7,7 @@ use Rattle.rows.specs.declared.row.Row.TheVariants as row
 use Rattle.rows.specs.Curves.{place_of}
 use Rattle.rows.specs.Leasts.{least_in}
 use Rattle.findings.specs.Rules.{Admission}
-use Rattle.findings.specs.Walk.{calls, symmetric}
+use Rattle.findings.specs.Walk.{calls}
 use Rattle.fitting.specs.declared.demand.Bounds.{Bounds}
 use Rattle.fitting.specs.declared.demand.Demand.{Demand}
 use Rattle.fitting.specs.declared.demand.Demand.TheVariants.{Free, Called}
@@ -23,7 +23,7 @@ bounds road admission c =
     record {
       entry = least_in (admission (place_of road c));
       exit = least_in (admission (place_of road c));
-      even = symmetric road.group;
+      even = road.symmetric;
       room = room c;
     }
 

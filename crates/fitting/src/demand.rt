@@ -1,7 +1,6 @@
 // What the rows of a sheet ask of their clothoids.
 ghost use Rattle.std.specs.Prelude.{◌≡◌, ℕ, ◌≤◌, Some};
 ghost use Rattle.findings.specs.Rules.{Admission};
-ghost use Rattle.findings.specs.Walk.{symmetric};
 ghost use Rattle.fitting.specs.Demands.{room, bounds, demand, lengths};
 ghost use Rattle.fitting.specs.Passes.{first, least_asked, raised, only_of, body};
 ghost use Rattle.rows.specs.Reading.{row_of};
@@ -11,7 +10,6 @@ use limits::limit::Limit;
 use road::road::Road;
 use rows::record::RowRecord;
 use rows::row::{Curve, Row};
-use superelevation::group::Group;
 
 // The bounds of a calling curve's two clothoids.
 #[derive(Clone, Copy)]
@@ -40,13 +38,6 @@ pub(crate) struct Lengths {
     pub exit: u32,
 }
 
-// Whether entry and exit have to be equal on a road of the group.
-fn is_even(group: Group) -> bool
-    ensures { result ≡ symmetric group }
-{
-    group != Group::Three
-}
-
 // The greatest sum of entry and exit that leaves an arc.
 fn room_of(curve: Curve) -> u32
     ensures { result ≡ room curve }
@@ -63,7 +54,7 @@ impl Bounds {
         Bounds {
             entry: least,
             exit: least,
-            even: is_even(road.group),
+            even: road.symmetric,
             room: room_of(curve),
         }
     }
@@ -123,7 +114,7 @@ impl Lengths {
         let entry = least.max(least_entry);
         Lengths {
             entry,
-            exit: if is_even(road.group) { entry } else { least },
+            exit: if road.symmetric { entry } else { least },
         }
     }
 
@@ -142,11 +133,7 @@ impl Lengths {
         }
         let exit = curve.exit.max(least_exit);
         Lengths {
-            entry: if is_even(road.group) {
-                exit
-            } else {
-                curve.entry
-            },
+            entry: if road.symmetric { exit } else { curve.entry },
             exit,
         }
     }

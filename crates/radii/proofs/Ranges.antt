@@ -3,7 +3,7 @@ use Rattle.std.proofs.Common.{◌≡◌, ℕ, ◌+◌, ◌-◌, ◌*◌, ◌/◌
 use Rattle.std.proofs.lemmas.Bool.{leb-true, leb-false, ltb-true, ltb-false}
 use Rattle.road.specs.declared.road.Road.{Road}
 use Rattle.limits.specs.Least.{Smallest}
-use Rattle.findings.specs.Rules.{limited_length_lem, Tabled, Follows}
+use Rattle.findings.specs.Rules.{Tabled, Follows}
 use Rattle.radii.specs.declared.NextRadius.{NextRadius}
 use Rattle.radii.specs.Ranges.{RangeOf, WideEnough, divided_up, from_least_lem, tabled_lem, next_radius_lem, least_radius_lem}
 use Rattle.radii.proofs.Quotients.{rounded_up}
@@ -77,16 +77,16 @@ tabled_is r =
 
 pub next_radius_is : (road : Road) (run r : ℕ) → RangeOf (Follows road run r) (next_radius_lem road run r)
 next_radius_is road run r =
-    by_test (leb run (limited_length_lem road.speed)) _ _
+    by_test (leb run road.limited_run) _ _
     (λ e.
-    let near = leb-true run (limited_length_lem road.speed) e in
+    let near = leb-true run road.limited_run e in
     let range = tabled_is r in
     record {
       sound = λ next within. record { near = λ _. range.sound next within; far = λ far. absurd (let z : ⊥ = omega (arith, near, far) in z) };
       complete = λ next keeps. range.complete next (keeps.near near);
     })
     (λ e.
-    let far = leb-false run (limited_length_lem road.speed) e in
+    let far = leb-false run road.limited_run e in
     record {
       sound = λ next within. record { near = λ near. absurd (let z : ⊥ = omega (arith, near, far) in z); far = λ _. within.0 };
       complete = λ next keeps. (keeps.far far, tt);

@@ -1,7 +1,6 @@
 -- The radii that keep a rule, as a range.
 use Rattle.std.specs.Prelude.{ℕ, ◌+◌, ◌-◌, ◌*◌, ◌/◌, ◌%◌, ◌≤◌, min, cond, nat_lt, nat_le, Some, None, Option}
 use Rattle.road.specs.declared.road.Road.{Road}
-use Rattle.findings.specs.Rules.{limited_length_lem, radius_after_run_lem}
 use Rattle.radii.specs.declared.NextRadius.{NextRadius}
 
 abbrev pub UpTo : Option ℕ → ℕ → Type 0
@@ -40,7 +39,7 @@ tabled_lem r =
 -- The radii that may follow r over a run.
 abbrev pub next_radius_lem : Road → (run r : ℕ) → NextRadius
 next_radius_lem road run r =
-    cond (nat_le run (limited_length_lem road.speed)) (tabled_lem r) (from_least_lem (radius_after_run_lem road.group road.least_radius))
+    cond (nat_le run road.limited_run) (tabled_lem r) (from_least_lem road.radius_after_run)
 
 -- The least radius that is wide enough for a turn.
 abbrev pub least_radius_lem : (turn : ℕ) → ℕ

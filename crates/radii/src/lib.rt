@@ -7,7 +7,6 @@ ghost use Rattle.findings.specs.Rules.{Tabled, Follows};
 ghost use Rattle.radii.specs.Ranges.{RangeOf, WideEnough, from_least_lem, tabled_lem, next_radius_lem, least_radius_lem};
 ghost use Rattle.radii.specs.Words.{radius_words};
 
-use findings::figures::{limited_length, radius_after_run};
 use road::road::Road;
 use rows::row::Curve;
 use std::fmt;
@@ -73,10 +72,10 @@ pub fn next_radius(road: &Road, run: u64, radius: u32) -> NextRadius
     ensures value { result ≡ next_radius_lem road.now run radius }
     ensures range { RangeOf (Follows road.now run radius) result }
 {
-    if run <= limited_length(road.speed) {
+    if run <= road.limited_run as u64 {
         tabled(radius)
     } else {
-        NextRadius::from_least(radius_after_run(road) as u64)
+        NextRadius::from_least(road.radius_after_run as u64)
     }
 }
 

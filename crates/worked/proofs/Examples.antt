@@ -1,5 +1,5 @@
 -- The worked curves, computed.
-use Rattle.std.proofs.Common.{◌≡◌, ℕ, ◌+◌, ◌*◌, ◌<◌, ◌≤◌, Some, None, Ok, Err, Option, Result, sym, refl, ap, ◌∙◌, inl, inr, arith, lit<, lit≤}
+use Rattle.std.proofs.Common.{◌≡◌, ℕ, ◌+◌, ◌*◌, ◌<◌, ◌≤◌, Some, None, Ok, Err, Option, Result, true, sym, refl, ap, ◌∙◌, inl, inr, arith, lit<, lit≤}
 use Rattle.superelevation.specs.declared.group.Group.TheVariants.{One, Two, Three}
 use Rattle.superelevation.specs.Superelevation.{Superelevation, superelevation_of}
 use Rattle.superelevation.proofs.Values.{agrees, computed}
@@ -120,17 +120,30 @@ example_road = record {
   least_radius = 450_000;
   lane_factor = 100;
   jerk = 4;
+  free_radius = 5_000_000;
+  symmetric = true;
+  limited_run = 400_000;
+  radius_after_run = 700_000;
+  both_senses = true;
   listed = refl;
   grouped = refl;
   least = refl;
   factored = refl;
   chosen = refl;
+  free = refl;
+  even = refl;
+  limited = refl;
+  after = refl;
+  judged = refl;
   speeds = (lit≤ tt, lit≤ tt);
   edges = (lit≤ tt, lit≤ tt);
   turning = (lit≤ tt, lit≤ tt);
   radii = (lit≤ tt, lit≤ tt);
   factors = (lit≤ tt, lit≤ tt);
   jerks = (lit≤ tt, lit≤ tt);
+  free_radii = (lit≤ tt, lit≤ tt);
+  limited_runs = (lit≤ tt, lit≤ tt);
+  radii_after = (lit≤ tt, lit≤ tt);
 }
 
 is_example : Example example_road
@@ -143,6 +156,11 @@ is_example = record {
   line = refl;
   factor = refl;
   jerk = refl;
+  free = refl;
+  symmetry = refl;
+  limited = refl;
+  after_run = refl;
+  senses = refl;
 }
 
 some_place : (radius : ℕ) → 1_000 ≤ radius → radius ≤ 10_000_000 → (place : Place) × ExamplePlace radius place
