@@ -40,9 +40,13 @@ pub record Meaning : Type 0 where
   pub admits : Place → ℕ → Bool
   pub lawful : (place : Place) → UpToLongest (admits place)
 
--- The calls after opening, with their operands. Checking also has how many findings its memory can hold.
+-- What the limits of a type mean, by its ghost members `admitted` and `lawful`.
+abbrev pub meaning : {L : Type 0} (admitted : L → Place → ℕ → Bool) → ((limit : L) (place : Place) → UpToLongest (admitted limit place)) → L → Meaning
+meaning admitted lawful limit = record { admits = admitted limit; lawful = lawful limit }
+
+-- The calls after opening, with their operands; a row is named by its position in the list, from 0 on. Checking also has how many findings its memory can hold.
 pub data Call : Type 0 where
-  add : (place : ℕ) (row : NewRow) → Call
+  add : (position : ℕ) (row : NewRow) → Call
   take_out : (row : ℕ) → Call
   set_lengths : (row entry exit : ℕ) → Call
   check : (limit : Meaning) (space : ℕ) → Call
@@ -72,14 +76,14 @@ Stopped barred = Unit {0}
 
 -- A sheet of this mark has the call.
 abbrev pub Allowed : Mark → Call → Type 0
-Allowed draft (add place row) = Unit {0}
+Allowed draft (add position row) = Unit {0}
 Allowed draft (take_out row) = Unit {0}
 Allowed draft (set_lengths row entry exit) = Unit {0}
 Allowed draft (check limit space) = Unit {0}
 Allowed draft (fit limit) = Unit {0}
 Allowed draft (parameter row at) = ⊥
 Allowed draft reopen = ⊥
-Allowed fitted (add place row) = ⊥
+Allowed fitted (add position row) = ⊥
 Allowed fitted (take_out row) = ⊥
 Allowed fitted (set_lengths row entry exit) = ⊥
 Allowed fitted (check limit space) = Unit {0}
@@ -89,7 +93,7 @@ Allowed fitted reopen = Unit {0}
 
 -- The row that a call names, 0 where it names none.
 abbrev pub named : Call → ℕ
-named (add place row) = place
+named (add position row) = position
 named (take_out row) = row
 named (set_lengths row entry exit) = row
 named (check limit space) = 0
@@ -97,12 +101,12 @@ named (fit limit) = 0
 named (parameter row at) = row
 named reopen = 0
 
--- Row n of the rows is r.
+-- The row at position n of the rows, counted from 0, is r.
 pub record RowAt (rows : List Row) (n : ℕ) (r : Row) : Type 0 where
   pub within : n < length rows
   pub is : r ≡ slice_index_or rows n r
 
--- Row n is a straight.
+-- The row at position n is a straight.
 abbrev pub StraightAt : List Row → ℕ → Type 0
 StraightAt rows n = (s : Straight) × RowAt rows n (row.Straight s)
 
@@ -114,8 +118,8 @@ number_grounds (new.Curve sense radius turn) others = ground 4 (Outside 1_000 10
 -- The grounds for refusing a call, by their numbers, on a sheet of `count` rows whose memory can hold `room`.
 -- Number 12 belongs to what fitting does, since it names a row of its own.
 abbrev pub grounds : (room count : ℕ) → Plain → Call → List Ground
-grounds room count s (add place row) =
-    number_grounds row (ground 7 (room < count) ∷ ground 8 (count < place) ∷ ground 10 ((4_000 ≤ count) ⊎ (room ≤ count)) ∷ [])
+grounds room count s (add position row) =
+    number_grounds row (ground 7 (room < count) ∷ ground 8 (count < position) ∷ ground 10 ((4_000 ≤ count) ⊎ (room ≤ count)) ∷ [])
 grounds room count s (take_out row) = ground 7 (room < count) ∷ ground 8 (count ≤ row) ∷ []
 grounds room count s (set_lengths row entry exit) =
     ground 6 ((2_000_000 < entry) ⊎ (2_000_000 < exit)) ∷ ground 7 (room < count) ∷ ground 8 (count ≤ row) ∷ ground 9 (StraightAt s.rows row) ∷ []
@@ -151,7 +155,7 @@ marked mark s = record { road = s.road; rows = s.rows; mark = mark }
 
 -- What a call does and answers where none of its grounds applies. Fitting alone may then still be refused: by number 12, which names a row of its own.
 abbrev pub Effect : Plain → Call → Answer → Plain → Type 0
-Effect s (add place given) a s' = (a ≡ done) × ((r : Row) × Given given r × (s' ≡ with_rows s (insert s.rows place r)))
+Effect s (add position given) a s' = (a ≡ done) × ((r : Row) × Given given r × (s' ≡ with_rows s (insert s.rows position r)))
 Effect s (take_out n) a s' = (a ≡ done) × (s' ≡ with_rows s (remove s.rows n))
 Effect s (set_lengths n entry exit) a s' =
     (a ≡ done) × ((c d : Curve) × RowAt s.rows n (row.Curve c) × WithLengths c entry exit d × (s' ≡ with_rows s (slice_set s.rows n (row.Curve d))))

@@ -25,14 +25,14 @@ use Rattle.sheet.proofs.Keeps.{never_both}
 
 -- a sheet of this mark has the call, or not
 allowed : (mark : Mark) (c : Call) → Dec (Allowed mark c)
-allowed draft (add place new) = yes tt
+allowed draft (add position new) = yes tt
 allowed draft (take_out n) = yes tt
 allowed draft (set_lengths n entry exit) = yes tt
 allowed draft (check limit space) = yes tt
 allowed draft (fit limit) = yes tt
 allowed draft (parameter n at) = no (λ never. never)
 allowed draft reopen = no (λ never. never)
-allowed fitted (add place new) = no (λ never. never)
+allowed fitted (add position new) = no (λ never. never)
 allowed fitted (take_out n) = no (λ never. never)
 allowed fitted (set_lengths n entry exit) = no (λ never. never)
 allowed fitted (check limit space) = yes tt
@@ -87,8 +87,8 @@ numbers_decided (new.Straight l) others rest = (outside? 1 20_000_000 l, rest)
 numbers_decided (new.Curve sense radius turn) others rest = (outside? 1_000 10_000_000 radius, (outside? 1 2_000_000 turn, rest))
 
 decided : (room count : ℕ) (s : Plain) (c : Call) → Decided (grounds room count s c)
-decided room count s (add place new) =
-    numbers_decided new _ (dec_lt room count, (dec_lt count place, (either (dec_le 4_000 count) (dec_le room count), tt)))
+decided room count s (add position new) =
+    numbers_decided new _ (dec_lt room count, (dec_lt count position, (either (dec_le 4_000 count) (dec_le room count), tt)))
 decided room count s (take_out n) = (dec_lt room count, (dec_le count n, tt))
 decided room count s (set_lengths n entry exit) =
     (either (dec_lt 2_000_000 entry) (dec_lt 2_000_000 exit), (dec_lt room count, (dec_le count n, (straight? s.rows n, tt))))
@@ -146,9 +146,9 @@ curve_there rows n inside bent =
     elim (row_there rows n within) [ inl straight ↦ absurd (bent straight) | inr curve ↦ curve ]
 
 effect : (room : ℕ) (s : Plain) (c : Call) → Clear (grounds room (length s.rows) s c) → (a : Answer) × (s' : Plain) × Effect s c a s'
-effect room s (add place new) clear =
+effect room s (add position new) clear =
     let r = given_row new _ clear in
-    (done, with_rows s (insert s.rows place r.0), (refl, (r.0, r.1, refl)))
+    (done, with_rows s (insert s.rows position r.0), (refl, (r.0, r.1, refl)))
 effect room s (take_out n) clear = (done, with_rows s (remove s.rows n), (refl, refl))
 effect room s (set_lengths n entry exit) clear =
     let (c, at) = curve_there s.rows n clear.1.1.0 clear.1.1.1.0 in

@@ -1,4 +1,4 @@
--- What holds of the plain sheet and of its runs, whoever makes the calls.
+-- What holds of the plain sheet and of its histories, whoever makes the calls.
 use Rattle.std.specs.Prelude.{◌≡◌, ℕ, ◌≤◌, ◌↔◌, Option, Some, None, List, [], ◌∷◌, ◌++◌, map, length}
 use Rattle.road.specs.declared.road.Road.{Road}
 use Rattle.limits.specs.declared.place.Place.{Place}
@@ -6,7 +6,7 @@ use Rattle.rows.specs.declared.record.RowRecord.{RowRecord}
 use Rattle.plain.specs.Lengths.{Alike, LeastLengths}
 use Rattle.plain.specs.Sheet.{draft, fitted, opened, Plain, Meaning, Call, fit, reopen, Answer, done, barred, Allowed, Step}
 use Rattle.sheet.specs.States.{State, shown, Performs}
-use Rattle.series.specs.Runs.{Turn, Seen, Run, last_seen, Left, look, Lent, Chain, opened_in}
+use Rattle.series.specs.Histories.{LentCall, Seen, History, last_seen, Left, look, Lent, Chain, opened_in}
 use Rattle.series.specs.ByHand.{Paired, firsts, seconds, ButLengths}
 
 -- From each sheet and call there is one answer, and one sheet after.
@@ -15,9 +15,9 @@ OneStep =
     (room : ℕ) (s : Plain) (c : Call)
     → (a : Answer) × (s' : Plain) × Step room s c a s' × ((b : Answer) (t : Plain) → Step room s c b t → (b ≡ a) × (t ≡ s'))
 
--- So a series has one run.
-abbrev pub OneRun : Type 0
-OneRun = (s : Plain) (turns : List Turn) → (xs : List Seen) × Run s turns xs × ((ys : List Seen) → Run s turns ys → ys ≡ xs)
+-- So a series has one history.
+abbrev pub OneHistory : Type 0
+OneHistory = (s : Plain) (calls : List LentCall) → (xs : List Seen) × History s calls xs × ((ys : List Seen) → History s calls ys → ys ≡ xs)
 
 -- A call is barred only where a sheet of that mark does not have it, and then nothing changes.
 abbrev pub BarredOnly : Type 0
@@ -38,9 +38,9 @@ FitsAgree =
 abbrev pub CallsLink : Type 0
 CallsLink = (s : State) (c : Call) (a : Answer) (s' : State) → Performs s c a s' → Lent (length s.memory) s c a s'
 
--- Any calls that are linked by their own contracts, whoever makes them, from a sheet whose memory holds its rows, are a run of the plain sheet.
-abbrev pub ChainsRun : Type 0
-ChainsRun = (s : State) (turns : List Turn) (trail : List Left) → s.count ≤ length s.memory → Chain s turns trail → Run (shown s) turns (map look trail)
+-- Any calls that are linked by their own contracts, whoever makes them, from a sheet whose memory holds its rows, are a history of the plain sheet.
+abbrev pub ChainsAreHistories : Type 0
+ChainsAreHistories = (s : State) (calls : List LentCall) (trail : List Left) → s.count ≤ length s.memory → Chain s calls trail → History (shown s) calls (map look trail)
 
 -- The sheet has the least lengths that keep the rules under the limit.
 abbrev pub HasLeast : Meaning → Plain → Type 0
@@ -53,8 +53,8 @@ limit_after (fit limit) done under = Some limit
 limit_after reopen done under = None
 limit_after c a under = under
 
--- The same after all turns: each call is that for the rows that the sheet then had.
-abbrev pub fitted_under : Option Meaning → Plain → List Turn → List Seen → Option Meaning
+-- The same after all calls: each is that for the rows that the sheet then had.
+abbrev pub fitted_under : Option Meaning → Plain → List LentCall → List Seen → Option Meaning
 fitted_under under s [] xs = under
 fitted_under under s (q ∷ qs) [] = under
 fitted_under under s (q ∷ qs) (x ∷ xs) = fitted_under (limit_after (q.call (length s.rows)) x.answer under) x.sheet qs xs
@@ -63,33 +63,33 @@ fitted_under under s (q ∷ qs) (x ∷ xs) = fitted_under (limit_after (q.call (
 -- and not reopened since; where they leave a draft, there is no such fit.
 abbrev pub FittedIsLeast : Type 0
 FittedIsLeast =
-    (road : Road) (turns : List Turn) (xs : List Seen)
-    → Run (opened road) turns xs
+    (road : Road) (calls : List LentCall) (xs : List Seen)
+    → History (opened road) calls xs
     → let s = last_seen (opened road) xs in
-    let under = fitted_under None (opened road) turns xs in
+    let under = fitted_under None (opened road) calls xs in
     (s.mark ≡ fitted → (limit : Meaning) × (under ≡ Some limit) × HasLeast limit s) × (s.mark ≡ draft → under ≡ None)
 
--- Lengths that are set by hand do not bear on what fitting gives: two series on a sheet that differ only in turns that set lengths by hand, wherever
+-- Lengths that are set by hand do not bear on what fitting gives: two series on a sheet that differ only in calls that set lengths by hand, wherever
 -- these stand, leave the same sheet but for its lengths, and where it is fitted the same sheet.
 abbrev pub HandLengths : Type 0
 HandLengths =
-    (s : Plain) (pairs : List Paired) (xs ys : List Seen) → Run s (firsts pairs) xs → Run s (seconds pairs) ys → ButLengths (last_seen s xs) (last_seen s ys)
+    (s : Plain) (pairs : List Paired) (xs ys : List Seen) → History s (firsts pairs) xs → History s (seconds pairs) ys → ButLengths (last_seen s xs) (last_seen s ys)
 
 -- A sheet just opened is the plain sheet just opened, and every memory holds its rows: what carrying out promises holds of it without a premise.
 abbrev pub Opening : Type 0
 Opening = (road : Road) (memory : List RowRecord) → (shown (opened_in road memory) ≡ opened road) × ((opened_in road memory).count ≤ length memory)
 
--- A stretch is a part of a series that is carried out in one go. Stretches, one after the other, are a run of the whole.
-abbrev pub Stretches : Type 0
-Stretches = (s : Plain) (turns more : List Turn) (xs ys : List Seen) → Run s turns xs → Run (last_seen s xs) more ys → Run s (turns ++ more) (xs ++ ys)
+-- Parts of a series, carried out one after the other, are a history of the whole.
+abbrev pub Parts : Type 0
+Parts = (s : Plain) (calls more : List LentCall) (xs ys : List Seen) → History s calls xs → History (last_seen s xs) more ys → History s (calls ++ more) (xs ++ ys)
 
 pub record Laws : Type 0 where
   pub opens : Opening
-  pub stretches : Stretches
+  pub parts : Parts
   pub steps : OneStep
-  pub runs : OneRun
+  pub histories : OneHistory
   pub links : CallsLink
-  pub chains : ChainsRun
+  pub chains : ChainsAreHistories
   pub barring : BarredOnly
   pub fits : FitsAgree
   pub fitted_least : FittedIsLeast

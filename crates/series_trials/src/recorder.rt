@@ -1,13 +1,13 @@
-// A watcher that keeps the answers.
+// A watcher that keeps the outcomes.
 ghost use Rattle.std.specs.Prelude.{◌≡◌, ◌<◌, ◌+◌, List, length, slice_set};
 ghost use Rattle.findings.specs.declared.finding.Finding.{Finding};
-ghost use Rattle.series.specs.declared.answer.Answer.{Answer};
+ghost use Rattle.series.specs.declared.outcome.Outcome.{Outcome};
 ghost use Rattle.series.specs.Calls.{told};
 
 use findings::finding::Finding;
 use rows::record::RowRecord;
-use series::answer::Answer;
-use series::mark::Sheet;
+use series::any_sheet::Sheet;
+use series::outcome::Outcome;
 use series::watcher::Watcher;
 
 // More calls than any trial makes.
@@ -15,17 +15,17 @@ pub(crate) const CALLS: usize = 12;
 
 #[derive(Drop)]
 pub(crate) struct Recorder {
-    pub answers: [Answer; CALLS],
+    pub outcomes: [Outcome; CALLS],
     pub count: usize,
 }
 
 impl Watcher for Recorder {
-    // Where there is a slot, it gets the answer.
-    ghost sees = { λ before seen after. before.count < 12 → (answer : Answer) × (findings : List Finding) × (seen.answer ≡ told answer findings) × (after.answers ≡ slice_set before.answers before.count answer) × (after.count ≡ before.count + 1) };
+    // Where there is a slot, it gets the outcome.
+    ghost sees = { λ before seen after. before.count < 12 → (outcome : Outcome) × (findings : List Finding) × (seen.answer ≡ told outcome findings) × (after.outcomes ≡ slice_set before.outcomes before.count outcome) × (after.count ≡ before.count + 1) };
 
-    fn see(&mut self, _sheet: &Sheet, _rows: &[RowRecord], _found: &[Finding], answer: Answer) {
+    fn see(&mut self, _sheet: &Sheet, _rows: &[RowRecord], _found: &[Finding], outcome: Outcome) {
         if self.count < CALLS {
-            self.answers[self.count] = answer;
+            self.outcomes[self.count] = outcome;
             self.count += 1;
         }
     }

@@ -12,9 +12,9 @@ use road::refusal::Refusal;
 use rows::end::End;
 use rows::record::RowRecord;
 use rows::row::Sense::{Left, Right};
-use series::answer::Answer;
+use series::any_sheet::Sheet;
 use series::call::{Call, Request};
-use series::mark::Sheet;
+use series::outcome::Outcome;
 use std::test::Fail;
 
 const UNUSED: Finding = Finding {
@@ -24,22 +24,22 @@ const UNUSED: Finding = Finding {
     weight: Weight::Advice,
 };
 
-// The answers to the calls, on a conventional road for 100 km/h, with garbage nowhere and `Barred` past the last.
-fn answers<L: Limit>(requests: &[Request<L>]) -> Result<[Answer; CALLS], Refusal> {
+// The outcomes of the calls, on a conventional road for 100 km/h, with garbage nowhere and `Barred` past the last.
+fn outcomes<L: Limit>(requests: &[Request<L>]) -> Result<[Outcome; CALLS], Refusal> {
     let mut rows = [RowRecord::BLANK; ROOM];
     let mut findings = [UNUSED; ROOM];
     let mut recorder = Recorder {
-        answers: [Answer::Barred; CALLS],
+        outcomes: [Outcome::Barred; CALLS],
         count: 0,
     };
     let sheet = Sheet::open(road(Class::C, 100)?);
     let _sheet = sheet.carry_out(&mut rows, &mut findings, requests, &mut recorder);
-    Ok(recorder.answers)
+    Ok(recorder.outcomes)
 }
 
 #[test]
 fn fitted_and_measured(rt: HostRuntime) -> Result<(), Fail> {
-    let shown = answers(&[
+    let shown = outcomes(&[
         bend(Left, 1_000_000),
         bend(Right, 450_000),
         whole(Call::Check {
@@ -67,15 +67,15 @@ fn fitted_and_measured(rt: HostRuntime) -> Result<(), Fail> {
         whole(Call::Reopen),
         whole(Call::TakeOut { row: 0 }),
     ])?;
-    assert_eq!(rt; shown[0], Answer::Done);
-    assert_eq!(rt; shown[1], Answer::Done);
-    assert_eq!(rt; shown[3], Answer::Barred);
-    assert_eq!(rt; shown[4], Answer::Done);
-    assert_eq!(rt; shown[5], Answer::Parameter(333_335));
-    assert_eq!(rt; shown[6], Answer::Parameter(182_576));
-    assert_eq!(rt; shown[7], Answer::Barred);
-    assert_eq!(rt; shown[9], Answer::Done);
-    assert_eq!(rt; shown[10], Answer::Done);
+    assert_eq!(rt; shown[0], Outcome::Done);
+    assert_eq!(rt; shown[1], Outcome::Done);
+    assert_eq!(rt; shown[3], Outcome::Barred);
+    assert_eq!(rt; shown[4], Outcome::Done);
+    assert_eq!(rt; shown[5], Outcome::Parameter(333_335));
+    assert_eq!(rt; shown[6], Outcome::Parameter(182_576));
+    assert_eq!(rt; shown[7], Outcome::Barred);
+    assert_eq!(rt; shown[9], Outcome::Done);
+    assert_eq!(rt; shown[10], Outcome::Done);
     Ok(())
 }
 
@@ -94,7 +94,7 @@ fn norma_then_table(rt: HostRuntime) -> Result<(), Fail> {
         first: COMPULSORY,
         second: ClientTable::of(&TABLE),
     });
-    let shown = answers(&[
+    let shown = outcomes(&[
         whole(Call::Fit { limit: norma }),
         bend(Left, 1_000_000),
         straight(139_000),
@@ -120,12 +120,12 @@ fn norma_then_table(rt: HostRuntime) -> Result<(), Fail> {
             at: End::Entry,
         }),
     ])?;
-    assert_eq!(rt; shown[0], Answer::Refused(Refusal::NoRows));
-    assert_eq!(rt; shown[3], Answer::Done);
-    assert_eq!(rt; shown[4], Answer::Parameter(360_556));
-    assert_eq!(rt; shown[5], Answer::Refused(Refusal::NotACurve { row: 1 }));
-    assert_eq!(rt; shown[8], Answer::Refused(Refusal::NoFit { row: 2 }));
-    assert_eq!(rt; shown[9], Answer::Refused(Refusal::ShortMemory { row: 0 }));
-    assert_eq!(rt; shown[10], Answer::Done);
+    assert_eq!(rt; shown[0], Outcome::Refused(Refusal::NoRows));
+    assert_eq!(rt; shown[3], Outcome::Done);
+    assert_eq!(rt; shown[4], Outcome::Parameter(360_556));
+    assert_eq!(rt; shown[5], Outcome::Refused(Refusal::NotACurve { row: 1 }));
+    assert_eq!(rt; shown[8], Outcome::Refused(Refusal::NoFit { row: 2 }));
+    assert_eq!(rt; shown[9], Outcome::Refused(Refusal::ShortMemory { row: 0 }));
+    assert_eq!(rt; shown[10], Outcome::Done);
     Ok(())
 }

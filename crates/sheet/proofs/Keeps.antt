@@ -1,5 +1,5 @@
 -- How a call's way out keeps to the relation: one lemma for a refusal, one for a call carried out, one for a call that only looks.
-use Rattle.std.proofs.Common.{◌≡◌, ℕ, ◌+◌, ◌-◌, ◌<◌, ◌≤◌, min, List, [], ◌∷◌, ◌++◌, length, Err, get_or, take, set, sym, refl, ap, ◌∙◌, inl, inr, arith, length-set}
+use Rattle.std.proofs.Common.{◌≡◌, ℕ, ◌+◌, ◌-◌, ◌<◌, ◌≤◌, min, List, [], ◌∷◌, ◌++◌, length, Ok, Err, get_or, take, set, sym, refl, ap, ◌∙◌, inl, inr, arith, length-set}
 use Rattle.std.proofs.lemmas.List.{length-take-le, length-map, get_or-map, get_or-take, get_or_default}
 use Rattle.road.specs.declared.road.Road.{Road}
 use Rattle.road.specs.declared.refusal.Refusal.{Refusal}
@@ -16,7 +16,7 @@ use Rattle.plain.specs.declared.NewRow.{NewRow}
 use Rattle.plain.specs.declared.NewRow.TheVariants as new
 use Rattle.plain.specs.Sheet.{draft, RowAt, StraightAt, with_rows, Given, WithLengths, add, take_out, set_lengths, Call, named, Answer, done, refused, Allowed, grounds, number_grounds, Effect, refusing, carrying}
 use Rattle.plain.specs.Given.{given_record}
-use Rattle.sheet.specs.States.{State, shown, refusal, MemoryAfter, Performs, RecordAt}
+use Rattle.sheet.specs.States.{State, shown, refusal, MemoryAfter, Performs, Numbered, RecordAt}
 use Rattle.sheet.proofs.RowEdits.{rows_inserted, rows_removed, rows_set, length_inserted_within, length_removed_within}
 
 -- a draft's state
@@ -63,9 +63,9 @@ all_clear (new.Straight l) others (clear, _) rest = (clear, rest)
 all_clear (new.Curve sense radius turn) others (clear, (clear', _)) rest = (clear, (clear', rest))
 
 -- the numbers of the row are refused
-pub numbers_refused : (s : State) (place : ℕ) (given : NewRow) (e : Refusal) → Allowed s.mark (add place given) → Refused (number_grounds given []) place e → Performs s (add place given) (refusal e) s
-numbers_refused s place given e allowed why =
-    rw why.names (halted s (add place given) (number_of e) allowed (numbers_first given _ (number_of e) why.smallest))
+pub numbers_refused : (s : State) (position : ℕ) (given : NewRow) (e : Refusal) → Allowed s.mark (add position given) → Refused (number_grounds given []) position e → Performs s (add position given) (refusal e) s
+numbers_refused s position given e allowed why =
+    rw why.names (halted s (add position given) (number_of e) allowed (numbers_first given _ (number_of e) why.smallest))
 
 -- the record that the added row is kept by
 pub given_record_is : (given : NewRow) (r : Row) → Given given r → record_of r ≡ given_record given
@@ -73,6 +73,28 @@ given_record_is (new.Straight l) (row.Straight s) is = cc
 given_record_is (new.Straight l) (row.Curve c) is = absurd is
 given_record_is (new.Curve sense radius turn) (row.Straight s) is = absurd is
 given_record_is (new.Curve sense radius turn) (row.Curve c) is = cc
+
+-- and the row of that record is the one to be added, with numbers in their ranges
+given_of : (given : NewRow) (r : Row) → record_of r ≡ given_record given → Given given r
+given_of (new.Straight l) (row.Straight s) is = cc
+given_of (new.Straight l) (row.Curve c) is = absurd (cc)
+given_of (new.Curve sense radius turn) (row.Straight s) is = absurd (cc)
+given_of (new.Curve sense radius turn) (row.Curve c) is = (cc, cc, cc, cc, cc)
+
+numbers_within : (given : NewRow) (r : Row) → Given given r → Clear (number_grounds given [])
+numbers_within (new.Straight l) (row.Straight s) is =
+    (λ outside. elim outside [ inl low ↦ omega (arith, is, s.within.0) | inr high ↦ omega (arith, is, s.within.1) ], tt)
+numbers_within (new.Straight l) (row.Curve c) is = absurd is
+numbers_within (new.Curve sense radius turn) (row.Straight s) is = absurd is
+numbers_within (new.Curve sense radius turn) (row.Curve c) (same, radius_is, turn_is, _, _) = (
+  λ outside. elim outside [ inl low ↦ omega (arith, radius_is, c.within.0.0) | inr high ↦ omega (arith, radius_is, c.within.0.1) ],
+  (λ outside. elim outside [ inl low ↦ omega (arith, turn_is, c.within.1.0.0) | inr high ↦ omega (arith, turn_is, c.within.1.0.1) ], tt),
+)
+
+pub numbered : (position : ℕ) (given : NewRow) (r : Row) (value : RowRecord) → record_of r ≡ value → value ≡ given_record given → Numbered position given (Ok value)
+numbered position given r value of kept =
+    let is = given_of given r (of ∙ kept) in
+    (numbers_within given r is, (r, is, sym of))
 
 -- the first of some grounds is the first of more
 pub more_grounds : (grounds later : List Ground) (number : ℕ) → FirstApplying grounds number → FirstApplying (grounds ++ later) number
@@ -99,15 +121,15 @@ never_both rows n c s curve straight =
 
 module _ (road : Road) (count : ℕ) (memory memory' : List RowRecord) where
   -- a row was added, through a roll of the first rows
-  pub added : (place : ℕ) (given : NewRow) (r : Row) (value : RowRecord) → Clear (number_grounds given []) → Given given r → count ≤ length memory → place ≤ count → count < 4_000 → min count (length memory) < length memory → value ≡ record_of r → memory' ≡ with_inserted memory (min count (length memory)) place value → Performs (draft_of road count memory) (add place given) done (draft_of road (count + 1) memory')
-  added place given r value clear is fits within few room kept after =
+  pub added : (position : ℕ) (given : NewRow) (r : Row) (value : RowRecord) → Clear (number_grounds given []) → Given given r → count ≤ length memory → position ≤ count → count < 4_000 → min count (length memory) < length memory → value ≡ record_of r → memory' ≡ with_inserted memory (min count (length memory)) position value → Performs (draft_of road count memory) (add position given) done (draft_of road (count + 1) memory')
+  added position given r value clear is fits within few room kept after =
       let same : min count (length memory) ≡ count = omega arith in
-      let exact : memory' ≡ with_inserted memory count place (record_of r) = cc in
-      let long : length memory' ≡ length memory = ap length exact ∙ length_inserted_within memory count place (record_of r) (within, omega arith) in
-      carried (draft_of road count memory) (add place given) (draft_of road (count + 1) memory') tt
+      let exact : memory' ≡ with_inserted memory count position (record_of r) = cc in
+      let long : length memory' ≡ length memory = ap length exact ∙ length_inserted_within memory count position (record_of r) (within, omega arith) in
+      carried (draft_of road count memory) (add position given) (draft_of road (count + 1) memory') tt
       (all_clear given _ clear (λ short. omega arith, (λ beyond. omega arith, (λ full. elim full [ inl many ↦ omega arith | inr little ↦ omega arith ], tt))))
-      (refl, (r, is, ap (λ rows. with_rows (shown (draft_of road count memory)) rows) (ap (λ m. rows_of m (count + 1)) exact ∙ rows_inserted memory count place r within (omega arith))))
-      (exact ∙ ap (with_inserted memory count place) (given_record_is given r is))
+      (refl, (r, is, ap (λ rows. with_rows (shown (draft_of road count memory)) rows) (ap (λ m. rows_of m (count + 1)) exact ∙ rows_inserted memory count position r within (omega arith))))
+      (exact ∙ ap (with_inserted memory count position) (given_record_is given r is))
       fits (omega arith) long
 
   -- a refusal after a roll was asked, which left the memory

@@ -9,7 +9,7 @@ use Rattle.rows.specs.declared.record.RowRecord.TheVariants as stored
 use Rattle.rows.specs.declared.row.Curve.{Curve}
 use Rattle.rows.specs.declared.row.Row.{Row}
 use Rattle.rows.specs.declared.row.Row.TheVariants as row
-use Rattle.rows.specs.Reading.{row_of, rows_of, blank_record}
+use Rattle.rows.specs.Reading.{row_of, rows_of, record_of, blank_record}
 use Rattle.findings.specs.declared.finding.Finding.{Finding}
 use Rattle.plain.specs.declared.NewRow.{NewRow}
 use Rattle.plain.specs.Given.{given_record}
@@ -25,11 +25,27 @@ pub record State : Type 0 where
   pub count : ℕ
   pub memory : List RowRecord
 
+abbrev pub state_of : Mark → Road → (count : ℕ) → List RowRecord → State
+state_of mark road count memory = record { mark = mark; road = road; count = count; memory = memory }
+
+-- What a draft and a fitted sheet hold themselves: the road, and how many rows there are.
+abbrev pub draft_road : Draft → Road
+draft_road d = d.road
+
+abbrev pub draft_count : Draft → ℕ
+draft_count d = d.count
+
+abbrev pub fitted_road : Fitted → Road
+fitted_road f = f.road
+
+abbrev pub fitted_count : Fitted → ℕ
+fitted_count f = f.count
+
 abbrev pub drafted : Draft → List RowRecord → State
-drafted d memory = record { mark = draft; road = d.road; count = d.count; memory = memory }
+drafted d memory = state_of draft (draft_road d) (draft_count d) memory
 
 abbrev pub fitted_in : Fitted → List RowRecord → State
-fitted_in f memory = record { mark = fitted; road = f.road; count = f.count; memory = memory }
+fitted_in f memory = state_of fitted (fitted_road f) (fitted_count f) memory
 
 -- The plain sheet that a state shows: its rows are what the first `count` records stand for.
 abbrev pub shown : State → Plain
@@ -37,7 +53,7 @@ shown s = record { road = s.road; rows = rows_of s.memory s.count; mark = s.mark
 
 -- What the row memory holds, to the last slot, after a call that was carried out.
 abbrev pub MemoryAfter : Call → (count : ℕ) → List RowRecord → List RowRecord → Type 0
-MemoryAfter (add place given) count before after = after ≡ with_inserted before count place (given_record given)
+MemoryAfter (add position given) count before after = after ≡ with_inserted before count position (given_record given)
 MemoryAfter (take_out n) count before after = after ≡ with_removed before count n blank_record
 MemoryAfter (set_lengths n entry exit) count before after =
     (c : Curve) × (row.Curve c ≡ row_of (slice_index_or before n blank_record)) × (after ≡ slice_set before n (stored.Curve c.sense c.radius c.turn entry exit))
@@ -55,6 +71,10 @@ pub record Performs (s : State) (c : Call) (a : Answer) (s' : State) : Type 0 wh
   pub whole : s.count ≤ length s.memory → s'.count ≤ length s'.memory
   pub short : length s.memory < s.count → s'.count ≡ s.count
   pub long : length s'.memory ≡ length s.memory
+
+-- A call that only looks at the sheet keeps to it, and leaves the sheet as it is.
+abbrev pub OnlyLooks : State → Call → Answer → Type 0
+OnlyLooks s c a = Performs s c a s
 
 -- What each call's result answers.
 abbrev pub refusal : Refusal → Answer
@@ -87,12 +107,12 @@ abbrev pub Untouched : Result ℕ Refusal → List Finding → List Finding → 
 Untouched (Ok n) before after = (n ≤ length before) × (length after ≡ length before) × (drop n after ≡ drop n before)
 Untouched (Err r) before after = after ≡ before
 
--- For private contracts: what the numbers of a row to be added give, the row or the refusal of one of them.
-abbrev pub Numbered : ℕ → NewRow → Result Row Refusal → Type 0
-Numbered place given (Ok r) = Clear (number_grounds given []) × Given given r
-Numbered place given (Err refusal) = Refused (number_grounds given []) place refusal
+-- For private contracts: what the numbers of a row to be added give, the record that keeps the row or the refusal of one of them.
+abbrev pub Numbered : ℕ → NewRow → Result RowRecord Refusal → Type 0
+Numbered position given (Ok stored) = Clear (number_grounds given []) × ((r : Row) × Given given r × (stored ≡ record_of r))
+Numbered position given (Err refusal) = Refused (number_grounds given []) position refusal
 
--- For private contracts: what asking for the record of row n gives, record n or the refusal of a memory that is too short or of a row that is not there.
+-- For private contracts: what asking for the record at position n gives, record n or the refusal of a memory that is too short or of a row that is not there.
 abbrev pub RecordAt : List RowRecord → (count n : ℕ) → Result RowRecord Refusal → Type 0
 RecordAt memory count n (Ok r) = (count ≤ length memory) × (n < count) × (r ≡ slice_index_or memory n r)
 RecordAt memory count n (Err refusal) = Refused (ground 7 (length memory < count) ∷ ground 8 (count ≤ n) ∷ []) n refusal

@@ -1,38 +1,38 @@
--- Series of calls: the runs of the plain sheet, the chains of a sheet with its memory, and what carrying them out promises.
+-- Series of calls: the histories of the plain sheet, the chains of a sheet with its memory, and what carrying them out promises.
 use Rattle.std.specs.Prelude.{◌≡◌, ℕ, ◌≤◌, List, [], ◌∷◌, ◌++◌, map, length, take, drop, min}
 use Rattle.road.specs.declared.road.Road.{Road}
 use Rattle.rows.specs.declared.record.RowRecord.{RowRecord}
 use Rattle.findings.specs.declared.finding.Finding.{Finding}
 use Rattle.plain.specs.Sheet.{draft, Plain, Meaning, Call, Answer, done, found, value, refused, barred, Step}
 use Rattle.sheet.specs.States.{State, shown, Performs}
-use Rattle.series.specs.declared.answer.Answer.{Answer as RealAnswer}
+use Rattle.series.specs.declared.outcome.Outcome.{Outcome}
 use Rattle.series.specs.declared.call.Request.{Request}
-use Rattle.series.specs.declared.mark.Sheet.{Sheet}
+use Rattle.series.specs.declared.any_sheet.Sheet.{Sheet}
 use Rattle.series.specs.Calls.{stands, asked, told}
 
--- A turn of a series, which is no turn of a curve: how many rows its memory can hold, and its call, by the number of rows that there then are.
-pub record Turn : Type 0 where
+-- A call of a series, with what it is lent: how many rows its memory can hold, and the call, by the number of rows that there then are.
+pub record LentCall : Type 0 where
   pub room : ℕ
   pub call : (count : ℕ) → Call
 
--- What is seen after a turn: the answer, and the plain sheet.
+-- What is seen after a call: the answer, and the plain sheet.
 pub record Seen : Type 0 where
   pub answer : Answer
   pub sheet : Plain
 
--- A run of the plain sheet, which is no run of straights: its step at each turn of a series, and what is seen after it.
-abbrev pub Run : Plain → List Turn → List Seen → Type 0
-Run s [] [] = Unit {0}
-Run s [] (x ∷ xs) = ⊥
-Run s (q ∷ qs) [] = ⊥
-Run s (q ∷ qs) (x ∷ xs) = Step q.room s (q.call (length s.rows)) x.answer x.sheet × Run x.sheet qs xs
+-- A history of the plain sheet: its step at each call of a series, and what is seen after it.
+abbrev pub History : Plain → List LentCall → List Seen → Type 0
+History s [] [] = Unit {0}
+History s [] (x ∷ xs) = ⊥
+History s (q ∷ qs) [] = ⊥
+History s (q ∷ qs) (x ∷ xs) = Step q.room s (q.call (length s.rows)) x.answer x.sheet × History x.sheet qs xs
 
 -- The sheet that is seen last.
 abbrev pub last_seen : Plain → List Seen → Plain
 last_seen s [] = s
 last_seen s (x ∷ xs) = last_seen x.sheet xs
 
--- What a turn leaves: the answer, and the sheet with all its memory.
+-- What a call leaves: the answer, and the sheet with all its memory.
 pub record Left : Type 0 where
   pub answer : Answer
   pub state : State
@@ -51,7 +51,7 @@ pub record Lent (room : ℕ) (s : State) (c : Call) (a : Answer) (s' : State) : 
   pub rest : drop room s'.memory ≡ drop room s.memory
 
 -- Calls that are linked by their own contracts, whoever makes them.
-abbrev pub Chain : State → List Turn → List Left → Type 0
+abbrev pub Chain : State → List LentCall → List Left → Type 0
 Chain s [] [] = Unit {0}
 Chain s [] (x ∷ xs) = ⊥
 Chain s (q ∷ qs) [] = ⊥
@@ -80,24 +80,29 @@ findings_after_all [] memory = memory
 findings_after_all (x ∷ xs) memory = findings_after_all xs (findings_after x.answer memory)
 
 -- What a request asks, with so many slots of row memory and of findings memory; more cannot be lent.
-abbrev pub turn : {L : Type 0} → (L → Meaning) → (rows findings : ℕ) → Request L → Turn
-turn meant rows findings q = record { room = min q.room rows; call = λ count. asked meant findings count q.call }
+abbrev pub lent_call : {L : Type 0} → (L → Meaning) → (rows findings : ℕ) → Request L → LentCall
+lent_call meant rows findings q = record { room = min q.room rows; call = λ count. asked meant findings count q.call }
 
 -- What is seen of a sheet at run time, with the findings of its check.
-abbrev pub seen : Sheet → List RowRecord → List Finding → RealAnswer → Seen
+abbrev pub seen : Sheet → List RowRecord → List Finding → Outcome → Seen
 seen s memory findings a = record { answer = told a findings; sheet = shown (stands s memory) }
 
--- The turns were carried out: each call kept its own contract, and the watcher was shown its answer and the sheet after it; the sheet is the one that
--- the last turn leaves, and the findings memory has what the checks wrote. Where the memory held the sheet's rows, what the watcher was shown is a run
+-- The calls were carried out: each call kept its own contract, and the watcher was shown its answer and the sheet after it; the sheet is the one that
+-- the last call leaves, and the findings memory has what the checks wrote. Where the memory held the sheet's rows, what the watcher was shown is a history
 -- of the plain sheet, and the memory holds the rows of the sheet that is left.
-pub record CarriedOut {W : Type 0} (sees : W → Seen → W → Type 0) (turns : List Turn) (w w' : W) (findings findings' : List Finding) (s s' : State) : Type 0 where
+pub record CarriedOut {W : Type 0} (sees : W → Seen → W → Type 0) (calls : List LentCall) (w w' : W) (findings findings' : List Finding) (s s' : State) : Type 0 where
   pub trail : List Left
-  pub chain : Chain s turns trail
-  pub run : s.count ≤ length s.memory → Run (shown s) turns (map look trail)
+  pub chain : Chain s calls trail
+  pub history : s.count ≤ length s.memory → History (shown s) calls (map look trail)
   pub watched : Watched sees w (map look trail) w'
   pub ends : s' ≡ last_of s trail
   pub fits : s.count ≤ length s.memory → s'.count ≤ length s'.memory
   pub written : findings' ≡ findings_after_all trail findings
+
+-- The requests were carried out, each as the call that it asks, lent what there is of its memory.
+abbrev pub RequestsCarriedOut : {L W : Type 0} → (W → Seen → W → Type 0) → (L → Meaning) → List (Request L) → (w w' : W) (findings findings' : List Finding) (s s' : State) → Type 0
+RequestsCarriedOut sees meant requests w w' findings findings' s s' =
+    CarriedOut sees (map (lent_call meant (length s.memory) (length findings)) requests) w w' findings findings' s s'
 
 -- A sheet just opened, with its memory.
 abbrev pub opened_in : Road → List RowRecord → State
