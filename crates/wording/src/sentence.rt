@@ -79,12 +79,12 @@ impl fmt::Display for ClothoidShown {
 
 // A run between two curves, where there is one.
 #[derive(Clone, Copy)]
-struct Over {
+struct RunShown {
     run: u64,
     scale: Scale,
 }
 
-impl fmt::Display for Over {
+impl fmt::Display for RunShown {
     ghost output = { λ over. Some (over_text over.scale over.run) };
 
     fn fmt<W: fmt::Write>(&self, f: &mut fmt::Formatter<W>) -> fmt::Result {
@@ -98,13 +98,13 @@ impl fmt::Display for Over {
 
 // The lengths or radii from a least one, up to a greatest if there is one: mm.
 #[derive(Clone, Copy)]
-struct Range {
+struct RangeShown {
     least: u64,
     greatest: Option<u64>,
     scale: Scale,
 }
 
-impl fmt::Display for Range {
+impl fmt::Display for RangeShown {
     ghost output = { λ range. Some (range_text range.scale range.least range.greatest) };
 
     fn fmt<W: fmt::Write>(&self, f: &mut fmt::Formatter<W>) -> fmt::Result {
@@ -118,9 +118,9 @@ impl fmt::Display for Range {
 
 // The sense in which radii are judged, where it is not the road's own.
 #[derive(Clone, Copy)]
-struct Sense(End);
+struct SenseShown(End);
 
-impl fmt::Display for Sense {
+impl fmt::Display for SenseShown {
     ghost output = { λ sense. Some (sense_text sense.0) };
 
     fn fmt<W: fmt::Write>(&self, f: &mut fmt::Formatter<W>) -> fmt::Result {
@@ -214,7 +214,7 @@ fn write_disharmony<W: fmt::Write>(
     let entries = harmonious_entries(before.curve.exit);
     let entry = scale.length(entry as u64);
     let exit = scale.length(before.curve.exit as u64);
-    let range = Range {
+    let range = RangeShown {
         least: entries.least,
         greatest: Some(entries.longest),
         scale,
@@ -268,16 +268,16 @@ fn write_disagreement<W: fmt::Write>(
     let row = neighbour.row;
     let radius = scale.length(radius as u64);
     let other = scale.length(neighbour.curve.radius as u64);
-    let over = Over {
+    let over = RunShown {
         run: neighbour.run,
         scale,
     };
-    let range = Range {
+    let range = RangeShown {
         least: range.least,
         greatest: range.greatest,
         scale,
     };
-    let sense = Sense(end);
+    let sense = SenseShown(end);
     write!(
         f,
         "radius of {radius} after {other} in row {row}{over}; {range} required{sense}"
