@@ -1,10 +1,12 @@
 -- A sheet as a table.
-use Rattle.std.specs.Prelude.{◌≡◌, ℕ, ◌+◌, Bool, List, [], ◌∷◌, ◌++◌, length, codes}
+use Rattle.std.specs.Prelude.{◌≡◌, ℕ, ◌+◌, Bool, List, [], ◌∷◌, ◌++◌, map, length, codes}
 use Rattle.road.specs.declared.road.Road.{Road}
 use Rattle.rows.specs.declared.row.Row.{Row}
 use Rattle.choice.specs.declared.in_force.LimitsInForce.{LimitsInForce}
 use Rattle.choice.specs.Governing.{limits_of}
+use Rattle.rows.specs.Reading.{row_of}
 use Rattle.report.specs.declared.table_row.TableRow.{TableRow}
+use Rattle.report.specs.declared.writing.Report.{Report}
 use Rattle.report.specs.Headings.{road_heading, sheet_heading, limits_heading}
 use Rattle.report.specs.Rows.{Tabulates}
 use Rattle.report.specs.Shown.{table_row_text}
@@ -29,6 +31,10 @@ abbrev pub heading_text : Road → Bool → List Row → LimitsInForce → List 
 heading_text road is_fitted rows limits =
     as_line (road_heading road) ++ (as_line (sheet_heading is_fitted (length rows)) ++ (as_line (limits_heading (limits_of limits)) ++ (
     as_line [] ++ (as_line column_names ++ as_line column_units))))
+
+-- The heading of a report.
+abbrev pub heading_of : Report → List ℕ
+heading_of report = heading_text report.road.now report.fitted (map row_of report.rows.now) report.limits.now
 
 -- A sheet as a table: its road, its mark and the number of its rows, the limits in force, and the rows with the names of their columns.
 abbrev pub SheetTable : Road → Bool → List Row → LimitsInForce → List ℕ → Type 0

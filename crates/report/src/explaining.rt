@@ -28,7 +28,9 @@ fn least_at(row: usize, road: &Road, rows: &[RowRecord], limits: &LimitsInForce)
     least_of_row(rows[row].read(), road, limits)
 }
 
-// The finding, with the least length where its rule speaks of it.
+/// The finding with its sheet, and with the least length in mm that the limits in force admit, where its rule is 1 (4.4.3) or 2 (4.4.4).
+///
+/// A finding of any number is taken: of a row that is not there nothing is said.
 pub fn explained<'a>(
     finding: Finding,
     road: &'a Road,

@@ -7,6 +7,7 @@ use std::fmt;
 use wording::explained::Explained;
 use wording::in_metres::InMetres;
 
+/// A finding as a report has it: `row ROW, rule RULE, WEIGHT: ` and what decides it, in metres and gon.
 #[derive(Clone, Copy)]
 pub struct FindingLine<'a>(pub Explained<'a>);
 

@@ -21,7 +21,7 @@ impl fmt::Display for RoadName<'_> {
     }
 }
 
-// A road with all that its clothoids depend on.
+/// A road with all that its clothoids depend on: class, speed in km/h, group (Table 4.4), least radius and edge distance in metres, lanes turning (4.4.3.2) and J in m/s³ (Table 4.6).
 #[derive(Clone, Copy)]
 pub struct RoadHeading<'a>(pub &'a Road);
 
@@ -41,11 +41,12 @@ impl fmt::Display for RoadHeading<'_> {
     }
 }
 
-// So many of something.
+/// So many of something: `1 row`, `3 rows`.
 #[derive(Clone, Copy, PartialEq, Eq, Debug)]
 pub struct Counted {
+    /// How many.
     pub count: usize,
-    // its name in the singular
+    /// Its name in the singular.
     pub what: &'static str,
 }
 
@@ -63,10 +64,12 @@ impl fmt::Display for Counted {
     }
 }
 
-// The mark of a sheet, and how many rows it has.
+/// The mark of a sheet, and how many rows it has: `fitted sheet, 3 rows`, `draft, 1 row`.
 #[derive(Clone, Copy, PartialEq, Eq, Debug)]
 pub struct SheetHeading {
+    /// Whether it is fitted; else it is a draft.
     pub fitted: bool,
+    /// The number of its rows.
     pub count: usize,
 }
 

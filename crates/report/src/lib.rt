@@ -1,4 +1,4 @@
-// A sheet as a table that a person reads: lengths in metres, turns in gon, superelevations in percent.
+//! A sheet as a table that a person reads, with its findings below: lengths in metres, turns in gon, superelevations in percent.
 #![tactic(auto)]
 
 pub mod column;
@@ -7,3 +7,10 @@ pub mod finding_line;
 pub mod heading;
 pub mod table_row;
 pub mod writing;
+
+pub use column::{GonColumn, MetresColumn, PercentColumn};
+pub use explaining::explained;
+pub use finding_line::FindingLine;
+pub use heading::{Counted, RoadHeading, SheetHeading};
+pub use table_row::TableRow;
+pub use writing::Report;

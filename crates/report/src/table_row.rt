@@ -12,22 +12,29 @@ use rows::row::{Curve, Row, Sense};
 use std::fmt;
 use superelevation::superelevation;
 
+/// What the table has of a row.
 #[derive(Clone, Copy)]
 pub enum TableRow {
+    /// A straight.
     Straight {
+        /// Its number, from 0.
         place: usize,
-        // mm
+        /// mm, 1 to 20,000,000.
         length: u32,
     },
+    /// A curve.
     Curve {
+        /// Its number, from 0.
         place: usize,
+        /// Its sense, radius, turn and lengths.
         curve: Curve,
-        // hundredths of a percent
+        /// Hundredths of a percent (Table 4.5).
         superelevation: u32,
-        // the parameters of its clothoids, mm
+        /// The parameter of its entry clothoid, mm, rounded up.
         entry: u32,
+        /// The parameter of its exit clothoid, mm, rounded up.
         exit: u32,
-        // the limit that governs the place of its clothoids, where it calls for them
+        /// The limit that governs the place of its clothoids (4.4.3), where it calls for them (4.4.1, 4.4.8).
         governing: Option<Governing>,
     },
 }
@@ -43,6 +50,7 @@ fn governing_of(curve: &Curve, road: &Road, limits: &LimitsInForce) -> Option<Go
 }
 
 impl TableRow {
+    /// The row of that number on a road, under the limits in force. No number is refused.
     pub fn of(place: usize, row: Row, road: &Road, limits: &LimitsInForce) -> TableRow
         ensures { Tabulates road.now limits.now place row result }
     {

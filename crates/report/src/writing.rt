@@ -1,10 +1,11 @@
 // Writing the table of a sheet, and its findings below.
-ghost use Rattle.std.specs.Prelude.{ℕ, List, OnOk, map};
+ghost use Rattle.std.specs.Prelude.{OnOk, map};
 ghost use Rattle.std.specs.Io.KnownBytes.{Appends};
 ghost use Rattle.rows.specs.Reading.{row_of};
 ghost use Rattle.choice.specs.Governing.{limits_of};
 ghost use Rattle.report.specs.Headings.{numbered_text, limits_heading};
-ghost use Rattle.report.specs.Tables.{as_line, TableOf, heading_text, SheetTable};
+ghost use Rattle.report.specs.Tables.{as_line, TableOf, heading_of, SheetTable};
+ghost use Rattle.report.specs.Written.{Written};
 ghost use Rattle.wording.specs.Lines.{explained_text};
 ghost use Rattle.report.specs.Explaining.{LinesOf};
 ghost use Rattle.report.specs.Findings.{finding_line, FindingsBelow};
@@ -21,12 +22,18 @@ use rows::record::RowRecord;
 use std::io;
 use std::io::Write;
 
-// What is reported: a sheet's road, mark and rows, and the limits in force for it.
+/// What is reported: a sheet's road, mark and rows, and the limits in force for it.
+///
+/// Its methods fail only where the writer does.
 #[derive(Clone, Copy)]
 pub struct Report<'a> {
+    /// The road.
     pub road: &'a Road,
+    /// The mark: fitted, or else a draft.
     pub fitted: bool,
+    /// Every row, in order.
     pub rows: &'a [RowRecord],
+    /// The limits that lengths are judged by.
     pub limits: &'a LimitsInForce,
 }
 
@@ -64,7 +71,7 @@ fn write_limits<W: Write>(out: &mut W, limits: &LimitsInForce) -> io::Result<()>
 impl Report<'_> {
     // The rows of the table, a line each.
     fn write_rows<W: Write>(&self, out: &mut W) -> io::Result<()>
-        ensures { OnOk result ((text : List ℕ) × TableOf self.now.road.now self.now.limits.now 0 (map row_of self.now.rows.now) text × Appends (W.contents out.old) (W.contents out.new) text) }
+        ensures { OnOk result (Written (TableOf self.now.road.now self.now.limits.now 0 (map row_of self.now.rows.now)) (W.contents out.old) (W.contents out.new)) }
     {
         for (place, record) in self.rows.iter().enumerate() {
             let row = TableRow::of(place, record.read(), self.road, self.limits);
@@ -75,7 +82,7 @@ impl Report<'_> {
 
     // What stands above the rows.
     fn write_heading<W: Write>(&self, out: &mut W) -> io::Result<()>
-        ensures { OnOk result (Appends (W.contents out.old) (W.contents out.new) (heading_text self.now.road.now self.now.fitted (map row_of self.now.rows.now) self.now.limits.now)) }
+        ensures { OnOk result (Appends (W.contents out.old) (W.contents out.new) (heading_of self.now)) }
     {
         let sheet = SheetHeading {
             fitted: self.fitted,
@@ -90,9 +97,9 @@ impl Report<'_> {
         )
     }
 
-    // The sheet as a table.
+    /// Writes the sheet as a table: its road, mark and limits, the names of the columns, a line for each row, and an empty line.
     pub fn write_table<W: Write>(&self, out: &mut W) -> io::Result<()>
-        ensures { OnOk result ((text : List ℕ) × SheetTable self.now.road.now self.now.fitted (map row_of self.now.rows.now) self.now.limits.now text × Appends (W.contents out.old) (W.contents out.new) text) }
+        ensures { OnOk result (Written (SheetTable self.now.road.now self.now.fitted (map row_of self.now.rows.now) self.now.limits.now) (W.contents out.old) (W.contents out.new)) }
     {
         self.write_heading(out)?;
         self.write_rows(out)?;
@@ -101,7 +108,7 @@ impl Report<'_> {
 
     // Findings, a line each.
     fn write_lines<W: Write>(&self, out: &mut W, findings: &[Finding]) -> io::Result<()>
-        ensures { OnOk result ((text : List ℕ) × LinesOf self.now.road.now self.now.limits.now self.now.rows.now finding_line findings.now text × Appends (W.contents out.old) (W.contents out.new) text) }
+        ensures { OnOk result (Written (LinesOf self.now.road.now self.now.limits.now self.now.rows.now finding_line findings.now) (W.contents out.old) (W.contents out.new)) }
     {
         for finding in findings {
             let explained = explained(*finding, self.road, self.rows, self.limits);
@@ -110,9 +117,9 @@ impl Report<'_> {
         Ok(())
     }
 
-    // Findings as a check answers them, a line each.
+    /// Writes findings as a check answers them, a line each: lengths in mm, turns in ten-thousandths of a gon.
     pub fn write_explained<W: Write>(&self, out: &mut W, findings: &[Finding]) -> io::Result<()>
-        ensures { OnOk result ((text : List ℕ) × LinesOf self.now.road.now self.now.limits.now self.now.rows.now explained_text findings.now text × Appends (W.contents out.old) (W.contents out.new) text) }
+        ensures { OnOk result (Written (LinesOf self.now.road.now self.now.limits.now self.now.rows.now explained_text findings.now) (W.contents out.old) (W.contents out.new)) }
     {
         for finding in findings {
             let explained = explained(*finding, self.road, self.rows, self.limits);
@@ -121,9 +128,9 @@ impl Report<'_> {
         Ok(())
     }
 
-    // What was found.
+    /// Writes how many findings there are, and a line for each: lengths in metres, turns in gon.
     pub fn write_findings<W: Write>(&self, out: &mut W, findings: &[Finding]) -> io::Result<()>
-        ensures { OnOk result ((text : List ℕ) × FindingsBelow self.now.road.now self.now.limits.now self.now.rows.now findings.now text × Appends (W.contents out.old) (W.contents out.new) text) }
+        ensures { OnOk result (Written (FindingsBelow self.now.road.now self.now.limits.now self.now.rows.now findings.now) (W.contents out.old) (W.contents out.new)) }
     {
         let found = Counted {
             count: findings.len(),

@@ -1,6 +1,5 @@
-pub mod Words
+pub mod Sentences
 pub mod Lengths
-pub mod InMetres
 pub mod Beside
 pub mod Explained
 pub mod Reasons

@@ -1,16 +1,21 @@
-// A finding with what it speaks of, to be shown in plain words.
-use crate::reason::Because;
+// A finding with what it speaks of, and how it is shown.
+use crate::sentence::Sentence;
 use findings::finding::Finding;
 use road::road::Road;
 use rows::record::RowRecord;
 use std::fmt;
+use units::Scale;
 
+/// A finding with the sheet that it speaks of. It is shown as a check answers it: `finding ROW RULE SIDE WEIGHT: ` and what decides it, in mm and ten-thousandths of a gon.
 #[derive(Clone, Copy)]
 pub struct Explained<'a> {
+    /// The finding.
     pub finding: Finding,
+    /// The road of the sheet.
     pub road: &'a Road,
+    /// The rows of the sheet, the finding's row among them.
     pub rows: &'a [RowRecord],
-    // the least length that is admitted for the clothoids of the finding's row, mm
+    /// The least length that is admitted for the clothoids of the finding's row, mm, if there is one. Only rules 1 and 2 speak of it.
     pub least: Option<u32>,
 }
 
@@ -27,7 +32,10 @@ impl fmt::Display for Explained<'_> {
             side,
             weight,
         } = self.finding;
-        let because = Because(self.reason());
-        write!(f, "finding {row} {rule} {side} {weight}: {because}")
+        let sentence = Sentence {
+            reason: self.reason(),
+            scale: Scale::Millimetres,
+        };
+        write!(f, "finding {row} {rule} {side} {weight}: {sentence}")
     }
 }

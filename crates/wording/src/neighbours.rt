@@ -6,12 +6,14 @@ ghost use Rattle.wording.specs.Beside.{next_curve, last_curve_lem, right_before_
 use rows::record::RowRecord;
 use rows::row::{Curve, Row, Straight};
 
-// A curve beside a row, where it stands, and the length of the run between the two, 0 where there is none.
+/// A curve beside a row.
 #[derive(Clone, Copy)]
 pub struct Neighbour {
+    /// The row that it stands in, from 0.
     pub row: usize,
+    /// The curve.
     pub curve: Curve,
-    // mm, the greatest number of 64 bits where it is longer
+    /// The length of the run between the two, mm: 0 where there is none, the greatest number of 64 bits where it is longer.
     pub run: u64,
 }
 

@@ -18,7 +18,7 @@ use rows::end::End;
 use rows::record::RowRecord;
 use rows::row::{Curve, Row, Straight};
 
-// The end of a curve that a side is, if it is one. No `TryFrom`, since there is no error to name.
+// The end of a curve that a side is, if it is one.
 fn end_at(side: Side) -> Option<End>
     ensures { result ≡ end_at_lem side }
 {
@@ -139,7 +139,9 @@ impl Explained<'_> {
         }
     }
 
-    // What decides the finding. There is nothing where the row is beyond the rows, or not of the kind that the rule speaks of.
+    /// What decides the finding, by its rule and its side and by the rows before and after its own.
+    ///
+    /// There is nothing where the row is beyond the rows, or is not of the kind that the rule speaks of, or lacks the neighbour that it speaks of. A finding of a check always has a reason.
     pub fn reason(&self) -> Option<Reason>
         ensures value { result ≡ reason_of self.now }
         ensures explains { Explains self.now result }
