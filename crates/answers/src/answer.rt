@@ -8,42 +8,59 @@ use road::road::Road;
 use rows::end::End;
 use std::fmt;
 
+/// What a line is answered where nothing is wrong with it: the last line of its answer, behind a list if it has one.
 #[derive(Clone, Copy)]
 pub enum Answer {
+    /// The road is open.
     Opened(Road),
+    /// The label of a curve on the open road.
     Labelled {
+        /// The curve's radius, mm.
         radius: u32,
+        /// The curve's turn, ten-thousandths of a gon.
         turn: u32,
+        /// What the curve has there.
         label: Label,
     },
+    /// A row is added.
     Added {
+        /// Its number, counted from 0.
         row: usize,
     },
+    /// A row is taken out.
     Removed {
+        /// The number that it had, counted from 0.
         row: usize,
     },
+    /// The clothoid lengths of a curve are set.
     LengthsSet {
+        /// The number of its row, counted from 0.
         row: usize,
     },
-    // so many findings, which stand at the front of their memory
+    /// The sheet is checked.
     Found {
+        /// How many findings there are.
         count: usize,
     },
-    // so many rows
+    /// The curves have their least lengths.
     Fitted {
+        /// How many rows the sheet has.
         count: usize,
     },
-    // of the clothoid at an end of a curve
+    /// The parameter of a clothoid of a curve.
     Parameter {
+        /// The number of the curve's row, counted from 0.
         row: usize,
+        /// The end of the curve that has the clothoid.
         at: End,
-        // mm
+        /// The parameter, mm.
         parameter: u32,
     },
+    /// The sheet is a draft again.
     Reopened,
 }
 
-// A length, or that there is none. A type of its own, since how an `Option` is shown is not ours to say.
+// A length, or that there is none.
 #[derive(Clone, Copy)]
 struct Length(Option<u32>);
 
@@ -58,7 +75,7 @@ impl fmt::Display for Length {
     }
 }
 
-// Apart from the road's type: no other line shows a road so.
+// Writes the line of a road that is opened.
 fn write_road<W: fmt::Write>(f: &mut fmt::Formatter<W>, road: &Road) -> fmt::Result
     ensures { WritesOnOk W.write_str_gives f.old result (road_text road.now) f.new }
 {
@@ -72,7 +89,7 @@ fn write_road<W: fmt::Write>(f: &mut fmt::Formatter<W>, road: &Road) -> fmt::Res
     )
 }
 
-// Apart from the label's type: a curve's radius and turn, which begin the line, are not in it.
+// Writes the line of a label.
 fn write_label<W: fmt::Write>(
     f: &mut fmt::Formatter<W>,
     radius: u32,
@@ -95,6 +112,7 @@ fn write_label<W: fmt::Write>(
     )
 }
 
+/// Shows the line, without its newline: lengths, radii and parameters in mm, turns in ten-thousandths of a gon.
 impl fmt::Display for Answer {
     ghost output = { λ answer. Some (answer_text answer) };
 

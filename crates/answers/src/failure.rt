@@ -8,14 +8,16 @@ use road::refusal::Refusal;
 use std::error::Error;
 use std::fmt;
 
+/// Why a command has no answer.
 #[derive(Clone, Copy, PartialEq, Eq, Debug)]
 pub enum Failure {
+    /// The rules do not have what it asks.
     Refused(Refusal),
-    // the command of this name speaks of the open road, and there is none
+    /// The command of this name speaks of the open road, and there is none.
     NoRoad(Name),
-    // the command of this name is for a draft, and the sheet is fitted
+    /// The command of this name is for a draft, and the sheet is fitted.
     Fitted(Name),
-    // the command of this name is for a fitted sheet, and the sheet is a draft
+    /// The command of this name is for a fitted sheet, and the sheet is a draft.
     Draft(Name),
 }
 
@@ -27,6 +29,7 @@ impl From<Refusal> for Failure {
     }
 }
 
+/// Shows a refusal by its number, the row that it names and its reason; of the others what is wrong and what would be right.
 impl fmt::Display for Failure {
     ghost output = { λ failure. Some (failure_text failure) };
 

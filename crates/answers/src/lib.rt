@@ -1,9 +1,18 @@
-// What the program answers, and how it is shown.
+//! What the program answers to a line, why it has no answer, how each is shown, and how the line fares.
 #![tactic(auto)]
 
 pub mod answer;
+pub mod error_line;
 pub mod failure;
 pub mod refused;
 pub mod set_out;
 pub mod shown_row;
 pub mod verdict;
+
+pub use answer::Answer;
+pub use error_line::ErrorLine;
+pub use failure::Failure;
+pub use refused::RefusedLine;
+pub use set_out::SetOut;
+pub use shown_row::ShownRow;
+pub use verdict::Verdict;

@@ -9,11 +9,14 @@ use plain::NewRow;
 use road::refusal::Refusal;
 use std::fmt;
 
-// The refusal, the command that was refused, and the number of its line.
+/// A line whose command the rules refuse.
 #[derive(Clone, Copy)]
 pub struct RefusedLine {
+    /// Why.
     pub refusal: Refusal,
+    /// What was asked.
     pub command: Command,
+    /// The number of the line, counted from 1.
     pub line: u64,
 }
 
@@ -95,6 +98,7 @@ fn write_value_of_call<W: fmt::Write>(
     }
 }
 
+/// Shows the refusal's number, its row and its reason, the value that was refused where there is one, and the line.
 impl fmt::Display for RefusedLine {
     ghost output = { λ refused. Some (refused_text refused.refusal refused.command refused.line) };
 

@@ -7,25 +7,33 @@ use roots::clothoid_parameter;
 use rows::row::Row;
 use std::fmt;
 
-// What is set out of a row, with its place.
+/// What is set out of a row. Lengths and parameters are in mm, and places are counted from 0.
 #[derive(Clone, Copy, PartialEq, Eq, Debug)]
 pub enum SetOut {
+    /// A straight.
     Straight {
+        /// The place of the row.
         place: usize,
-        // mm
+        /// Its length.
         length: u32,
     },
-    // the lengths of its clothoids and their parameters, mm
+    /// A curve, by its clothoids.
     Curve {
+        /// The place of the row.
         place: usize,
+        /// The length of the clothoid at the entry.
         entry: u32,
+        /// Its parameter, 0 where it has no length.
         entry_parameter: u32,
+        /// The length of the clothoid at the exit.
         exit: u32,
+        /// Its parameter, 0 where it has no length.
         exit_parameter: u32,
     },
 }
 
 impl SetOut {
+    /// What is set out of the row at the place, each clothoid with its parameter, rounded up to a mm (the office's own).
     pub fn of(place: usize, row: Row) -> SetOut
         ensures { SetsOut place row result }
     {
@@ -45,6 +53,7 @@ impl SetOut {
     }
 }
 
+/// Shows a straight as `S PLACE LENGTH`, and a curve as `V PLACE ENTRY A EXIT A`.
 impl fmt::Display for SetOut {
     ghost output = { λ line. Some (set_out_text line) };
 

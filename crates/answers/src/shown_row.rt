@@ -6,10 +6,12 @@ ghost use Rattle.answers.specs.Shown.{row_text};
 use rows::row::{Row, Sense};
 use std::fmt;
 
-// A row with its place, which is no part of the row and is shown with it.
+/// A row with its place, which is no part of the row and is shown with it.
 #[derive(Clone, Copy)]
 pub struct ShownRow {
+    /// The place of the row, counted from 0.
     pub place: usize,
+    /// The row.
     pub row: Row,
 }
 
@@ -23,6 +25,7 @@ fn sense_word(sense: Sense) -> &'static str
     }
 }
 
+/// Shows a straight as `straight PLACE LENGTH`, and a curve as `curve PLACE SENSE R W ENTRY EXIT`.
 impl fmt::Display for ShownRow {
     ghost output = { λ shown. Some (row_text shown.place shown.row) };
 

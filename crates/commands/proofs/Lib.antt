@@ -1,3 +1,4 @@
 mod ShownWords
+pub mod Listed
 pub mod NameSteps
 pub mod NoneSaid

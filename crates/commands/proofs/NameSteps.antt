@@ -7,16 +7,16 @@ use Rattle.limit_names.specs.declared.LimitName.{LimitName}
 use Rattle.limit_names.specs.declared.LimitName.TheVariants.{Comfort, Transition, Azimuth, Shift, Fifth, Table}
 use Rattle.commands.specs.Words.{none, word}
 use Rattle.limit_names.specs.Names.{limit_word}
-use Rattle.commands.specs.Names.{Plain, Names}
+use Rattle.commands.specs.Names.{NamedAlone, Names}
 use Rattle.commands.specs.Mistakes.{NamesBefore}
 
-pub plain_name : (w : List ℕ) (name : LimitName) → w ≡ limit_word name → (name ≡ Table → ⊥) → Plain w
-plain_name w Comfort is other = ((Comfort, is), λ table. grind arith)
-plain_name w Transition is other = ((Transition, is), λ table. grind arith)
-plain_name w Azimuth is other = ((Azimuth, is), λ table. grind arith)
-plain_name w Shift is other = ((Shift, is), λ table. grind arith)
-plain_name w Fifth is other = ((Fifth, is), λ table. grind arith)
-plain_name w Table is other = absurd (other refl)
+pub named_alone : (w : List ℕ) (name : LimitName) → w ≡ limit_word name → (name ≡ Table → ⊥) → NamedAlone w
+named_alone w Comfort is other = ((Comfort, is), λ table. grind arith)
+named_alone w Transition is other = ((Transition, is), λ table. grind arith)
+named_alone w Azimuth is other = ((Azimuth, is), λ table. grind arith)
+named_alone w Shift is other = ((Shift, is), λ table. grind arith)
+named_alone w Fifth is other = ((Fifth, is), λ table. grind arith)
+named_alone w Table is other = absurd (other refl)
 
 -- names after names
 pub joined : (vs ws : List (Bor (List ℕ))) → Names vs → Names ws → Names (vs ++ ws)
@@ -37,7 +37,7 @@ left_over (v ∷ u ∷ vs) ws (inl p) (inr q) = absurd (p.0.1 q.0)
 left_over (v ∷ u ∷ vs) ws (inr p) (inl q) = absurd (q.0.1 p.0)
 left_over (v ∷ u ∷ vs) ws (inr p) (inr q) = left_over vs ws p.1 q.1
 
-one_more : (ws : List (Bor (List ℕ))) (k : ℕ) → k < length ws → Names (take k ws) → Plain (get_or ws k none).now → Names (take (k + 1) ws)
+one_more : (ws : List (Bor (List ℕ))) (k : ℕ) → k < length ws → Names (take k ws) → NamedAlone (get_or ws k none).now → Names (take (k + 1) ws)
 one_more ws k within before here = rw (take_more ws k none within) (joined (take k ws) _ before here)
 
 table_more : (ws : List (Bor (List ℕ))) (k : ℕ) → k + 1 < length ws → Names (take k ws) → (get_or ws k none).now ≡ codes "table" → Names (take ((k + 1) + 1) ws)
@@ -53,7 +53,7 @@ after_first ws i k next = get_or_after_one ws k none ∙ ap (λ j. get_or ws j n
 pub name_read : (ws : List (Bor (List ℕ))) (i : ℕ) (name : LimitName) → 1 ≤ i → i < length ws → NamesBefore ws (i + 1) → word ws i ≡ limit_word name → (name ≡ Table → ⊥) → NamesBefore ws ((i + 1) + 1)
 name_read ws i name some within before is other =
     let k = (i + 1) - 2 in
-    let here : Plain (get_or (drop 1 ws) k none).now = rw (after_first ws i k (omega arith)) (plain_name (word ws i) name is other) in
+    let here : NamedAlone (get_or (drop 1 ws) k none).now = rw (after_first ws i k (omega arith)) (named_alone (word ws i) name is other) in
     subst (λ j. Names (take j (drop 1 ws))) {x = k + 1} {y = ((i + 1) + 1) - 2} (omega arith) (one_more (drop 1 ws) k (simp length-drop (omega arith)) before here)
 
 pub table_read : (ws : List (Bor (List ℕ))) (i : ℕ) → 1 ≤ i → i + 1 < length ws → NamesBefore ws (i + 1) → word ws i ≡ codes "table" → NamesBefore ws (((i + 1) + 1) + 1)

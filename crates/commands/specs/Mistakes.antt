@@ -14,7 +14,7 @@ use Rattle.commands.specs.declared.mistake.Expected.{Expected}
 use Rattle.commands.specs.declared.mistake.Expected.TheVariants as want
 use Rattle.commands.specs.declared.mistake.ParseError.{ParseError}
 use Rattle.limit_names.specs.Names.{ALimit}
-use Rattle.commands.specs.Names.{name_word, Names}
+use Rattle.commands.specs.Names.{name_word, ACommand, Names}
 use Rattle.commands.specs.Words.{word, choice_word, sense_word}
 
 -- the error names a word of the line and its place, counted from 1, or the place after the last word
@@ -24,7 +24,7 @@ Blames ws e =
 
 -- w is what is expected
 abbrev pub Wanted : Expected → List ℕ → Type 0
-Wanted want.Command w = (name : Name) × (w ≡ name_word name)
+Wanted want.Command w = ACommand w
 Wanted want.Class w = (class : Class) × (w ≡ class_word class)
 Wanted want.Number w = IsNumeral 10 w
 Wanted want.JerkChoice w = (choice : JerkChoice) × (w ≡ choice_word choice)
@@ -45,6 +45,22 @@ MayEnd x = ⊥
 abbrev pub Wrong : List (Bor (List ℕ)) → ParseError → Type 0
 Wrong ws e =
     (e.at ≤ length ws → Wanted e.expected (word ws (e.at - 1)) → ⊥) × (e.at ≡ length ws + 1 → MayEnd e.expected → ⊥)
+
+-- there is a word at place i, counted from 0, and it is what is expected
+abbrev pub IsThere : List (Bor (List ℕ)) → ℕ → Expected → Type 0
+IsThere ws i x = (i < length ws) × Wanted x (word ws i)
+
+-- the error is of the word at place `at`, where x should have stood
+abbrev pub WrongAt : List (Bor (List ℕ)) → (at : ℕ) → Expected → ParseError → Type 0
+WrongAt ws at x e = Blames ws e × (e.at ≡ at) × (e.expected ≡ x) × Wrong ws e
+
+-- the error is of a word, where there should have stood what Stands says
+abbrev pub WrongWhere : List (Bor (List ℕ)) → (Stands : ℕ → Expected → Type 0) → ParseError → Type 0
+WrongWhere ws Stands e = Blames ws e × Stands e.at e.expected × Wrong ws e
+
+-- the same of a word behind the first
+abbrev pub WrongBehind : List (Bor (List ℕ)) → (Stands : ℕ → Expected → Type 0) → ParseError → Type 0
+WrongBehind ws Stands e = Blames ws e × (1 < e.at) × Stands e.at e.expected × Wrong ws e
 
 -- the words from place i on, counted from 0, are what the list has
 abbrev pub AllWanted : List Expected → List (Bor (List ℕ)) → ℕ → Type 0

@@ -10,6 +10,11 @@ use Rattle.commands.specs.declared.command.SheetCommand.TheVariants as sheet
 use Rattle.commands.specs.declared.name.Name.{Name}
 use Rattle.commands.specs.declared.name.Name.TheVariants.{Road, Label, Straight, Curve, Remove, Set, Rows, Report, Limit, Check, Fit, Parameter, Reopen}
 
+-- the names, in the order in which a message lists them
+abbrev pub names : List Name
+names =
+    Road ∷ Label ∷ Straight ∷ Curve ∷ Remove ∷ Set ∷ Rows ∷ Report ∷ Limit ∷ Check ∷ Fit ∷ Parameter ∷ Reopen ∷ []
+
 abbrev pub name_word : Name → List ℕ
 name_word Road = codes "road"
 name_word Label = codes "label"
@@ -24,6 +29,10 @@ name_word Check = codes "check"
 name_word Fit = codes "fit"
 name_word Parameter = codes "parameter"
 name_word Reopen = codes "reopen"
+
+-- w is the name of a command
+abbrev pub ACommand : List ℕ → Type 0
+ACommand w = (name : Name) × (w ≡ name_word name)
 
 -- the name of a call of the open sheet
 abbrev pub name_of_call : SheetCommand → Name
@@ -45,12 +54,12 @@ name_of command.Rows = Rows
 name_of command.Report = Report
 name_of command.Limit = Limit
 
--- the name of a limit that needs no file
-abbrev pub Plain : List ℕ → Type 0
-Plain w = ALimit w × (w ≡ codes "table" → ⊥)
+-- the name of a limit that is named without a file
+abbrev pub NamedAlone : List ℕ → Type 0
+NamedAlone w = ALimit w × (w ≡ codes "table" → ⊥)
 
 -- the words are names of limits, where `table` has one word after it, the name of a file
 abbrev pub Names : List (Bor (List ℕ)) → Type 0
 Names [] = Unit {0}
-Names (w ∷ []) = Plain w.now
-Names (w ∷ v ∷ ws) = (Plain w.now × Names (v ∷ ws)) ⊎ ((w.now ≡ codes "table") × Names ws)
+Names (w ∷ []) = NamedAlone w.now
+Names (w ∷ v ∷ ws) = (NamedAlone w.now × Names (v ∷ ws)) ⊎ ((w.now ≡ codes "table") × Names ws)

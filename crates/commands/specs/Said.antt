@@ -1,5 +1,5 @@
 -- What the words of a line say.
-use Rattle.std.specs.Prelude.{◌≡◌, ℕ, ◌+◌, ◌<◌, ◌⊎◌, List, length, drop, Some, None, Ok, Err, codes, Option, Result, MatchResult, slice_index}
+use Rattle.std.specs.Prelude.{◌≡◌, ℕ, ◌+◌, ◌<◌, ◌⊎◌, List, [], ◌∷◌, length, drop, Some, None, Ok, Err, codes, Option, Result, MatchResult, slice_index}
 use Rattle.std.specs.Borrow.{Bor}
 use Rattle.road.specs.Words.{class_word}
 use Rattle.rows.specs.Ends.{end_word}
@@ -8,9 +8,11 @@ use Rattle.commands.specs.declared.command.Command.{Command}
 use Rattle.commands.specs.declared.command.Command.TheVariants.{Road, Label, Sheet, Rows, Report, Limit}
 use Rattle.commands.specs.declared.command.SheetCommand.TheVariants.{Add, Remove, Set, Check, Fit, Parameter, Reopen}
 use Rattle.commands.specs.declared.name.Name.{Name}
+use Rattle.commands.specs.declared.mistake.Expected.{Expected}
+use Rattle.commands.specs.declared.mistake.Expected.TheVariants as want
 use Rattle.commands.specs.declared.mistake.ParseError.{ParseError}
 use Rattle.commands.specs.Names.{name_word, name_of, Names}
-use Rattle.commands.specs.Mistakes.{Blames, Expects, StandsAt, Wrong}
+use Rattle.commands.specs.Mistakes.{Blames, Expects, In, StandsAt, Wrong, WrongBehind}
 use Rattle.commands.specs.Words.{word, Spells, choice_word, sense_word}
 
 -- from place i on the words are `before N`, or the line ends there
@@ -51,10 +53,16 @@ Comment ws = slice_index (word ws 0) 0 ≡ 35
 abbrev pub Parsed : List (Bor (List ℕ)) → Result Command ParseError → Type 0
 Parsed ws r = MatchResult r (λ c. Says ws c) (λ e. Blames ws e × Expects ws e × Wrong ws e)
 
+-- for private contracts: nothing stands behind the command's name
+abbrev pub IsBare : List (Bor (List ℕ)) → Command → Type 0
+IsBare ws command =
+    (length ws ≡ 1 → Operands ws command)
+    × ((at : ℕ) (x : Expected) → In (want.EndOfLine ∷ []) ws at x → StandsAt (name_of command) ws at x)
+
 -- what reading the words of a command of the name answers
 abbrev pub ReadAs : Name → List (Bor (List ℕ)) → Result Command ParseError → Type 0
 ReadAs name ws r =
-    MatchResult r (λ c. Says ws c) (λ e. Blames ws e × (1 < e.at) × StandsAt name ws e.at e.expected × Wrong ws e)
+    MatchResult r (λ c. Says ws c) (WrongBehind ws (StandsAt name ws))
 
 -- what the words of a line answer: the command that they say, or an error where they say none
 abbrev pub Answers : List (Bor (List ℕ)) → Result (Option Command) ParseError → Type 0

@@ -1,46 +1,53 @@
 // What a line can say.
 ghost use Rattle.std.specs.Prelude.{◌≡◌};
-ghost use Rattle.commands.specs.Names.{name_of, name_of_call};
+ghost use Rattle.commands.specs.Names.{name_of_call};
 
 use crate::name::Name;
 use plain::NewRow;
 use road::design::RoadDesign;
 use rows::end::End;
 
-// A call of the open sheet.
+/// What a line asks of the open sheet. Numbers are as the line has them: no range is tested, and no row need be there.
 #[derive(Clone, Copy)]
 pub enum SheetCommand {
-    // adds a row, before that of a number or after the last
+    /// Adds a row.
     Add {
+        /// The row.
         row: NewRow,
+        /// The number of the row that it is put before, counted from 0; `None` puts it behind the last.
         before: Option<u32>,
     },
-    // takes a row out
+    /// Takes a row out.
     Remove {
+        /// The row's number, counted from 0.
         row: u32,
     },
-    // sets both clothoid lengths of a curve
+    /// Sets both clothoid lengths of a curve.
     Set {
+        /// The row's number, counted from 0.
         row: u32,
-        // mm
+        /// The length of the clothoid at the entry, mm.
         entry: u32,
-        // mm
+        /// The length of the clothoid at the exit, mm.
         exit: u32,
     },
-    // asks for the findings
+    /// Asks for the findings.
     Check,
-    // gives the curves their least lengths
+    /// Gives the curves their least lengths.
     Fit,
-    // asks for the parameter of a clothoid of a curve
+    /// Asks for the parameter of a clothoid of a curve.
     Parameter {
+        /// The row's number, counted from 0.
         row: u32,
+        /// The end of the curve that has the clothoid.
         at: End,
     },
-    // makes a draft of the sheet again
+    /// Makes a draft of the sheet again.
     Reopen,
 }
 
 impl SheetCommand {
+    /// The name that the line of the call begins with.
     pub fn name(&self) -> Name
         ensures { result ≡ name_of_call self.now }
     {
@@ -59,37 +66,24 @@ impl SheetCommand {
     }
 }
 
+/// What a line says: a call of the open sheet, or one of the commands that open a road, choose limits or list what is there.
 #[derive(Clone, Copy)]
 pub enum Command {
-    // opens a road, in place of the one before
+    /// Opens a road, in place of the one before.
     Road(RoadDesign),
-    // asks for the label of a curve on the open road
+    /// Asks for the label of a curve on the open road.
     Label {
-        // mm
+        /// The curve's radius, mm.
         radius: u32,
-        // ten-thousandths of a gon
+        /// The curve's turn, ten-thousandths of a gon.
         turn: u32,
     },
+    /// Asks something of the open sheet.
     Sheet(SheetCommand),
-    // asks for the rows
+    /// Asks for the rows.
     Rows,
-    // asks for the whole sheet as a table
+    /// Asks for the whole sheet as a table.
     Report,
-    // chooses the limits, by the names that the words after the first are
+    /// Chooses the limits, by the names that the words after the first are.
     Limit,
-}
-
-impl Command {
-    pub fn name(&self) -> Name
-        ensures { result ≡ name_of self.now }
-    {
-        match self {
-            Command::Road(_) => Name::Road,
-            Command::Label { .. } => Name::Label,
-            Command::Sheet(call) => call.name(),
-            Command::Rows => Name::Rows,
-            Command::Report => Name::Report,
-            Command::Limit => Name::Limit,
-        }
-    }
 }

@@ -1,4 +1,5 @@
-// One line of text as a command.
+//! One line of input as a command: its words are read, and what is wrong with them is said in plain words.
+//! Each command's word stands once, in `COMMAND_WORDS`: reading, showing and the messages take it from there.
 #![tactic(auto)]
 
 pub mod command;
@@ -6,3 +7,8 @@ pub mod mistake;
 pub mod name;
 mod operand;
 pub mod parse;
+
+pub use command::{Command, SheetCommand};
+pub use mistake::{Expected, ParseError};
+pub use name::{COMMAND_WORDS, Name};
+pub use parse::MOST_WORDS;

@@ -31,10 +31,11 @@ pub(crate) trait Operand: Sized {
     // the line may not end where one is expected
     ghost needed: { MayEnd expects → ⊥ };
 
+    // what a message says was expected
     fn expected() -> Expected
         ensures { result ≡ expects };
 
-    // No `FromStr` beside it, which would state the same again.
+    // the value that the word says
     fn read(word: &str) -> Option<Self>
         ensures { MatchOption result (Wanted expects word.now → ⊥) (λ x. says word.now x) };
 }
@@ -199,21 +200,6 @@ impl Operand for Name {
     }
 
     fn read(word: &str) -> Option<Name> {
-        match word {
-            "road" => Some(Name::Road),
-            "label" => Some(Name::Label),
-            "straight" => Some(Name::Straight),
-            "curve" => Some(Name::Curve),
-            "remove" => Some(Name::Remove),
-            "set" => Some(Name::Set),
-            "rows" => Some(Name::Rows),
-            "report" => Some(Name::Report),
-            "limit" => Some(Name::Limit),
-            "check" => Some(Name::Check),
-            "fit" => Some(Name::Fit),
-            "parameter" => Some(Name::Parameter),
-            "reopen" => Some(Name::Reopen),
-            _ => None,
-        }
+        Name::of(word)
     }
 }

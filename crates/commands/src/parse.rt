@@ -3,8 +3,9 @@ ghost use Rattle.std.specs.Prelude.{◌≡◌, ◌+◌, ◌<◌, ◌≤◌, ◌�
 ghost use Rattle.commands.specs.declared.mistake.Expected.TheVariants as want;
 ghost use Rattle.commands.specs.declared.name.Name.TheVariants as name;
 ghost use Rattle.commands.specs.Words.{word};
-ghost use Rattle.commands.specs.Mistakes.{Blames, Wanted, Wrong, BeforeAt, NamesBefore, LimitAt};
-ghost use Rattle.commands.specs.Said.{BeforeFrom, ReadAs, Parsed, Answers};
+ghost use Rattle.commands.specs.Names.{name_of, name_word};
+ghost use Rattle.commands.specs.Mistakes.{Blames, IsThere, WrongAt, WrongWhere, WrongBehind, BeforeAt, NamesBefore, LimitAt};
+ghost use Rattle.commands.specs.Said.{BeforeFrom, IsBare, ReadAs, Parsed, Answers};
 
 use crate::command::{Command, SheetCommand};
 use crate::mistake::{Expected, ParseError};
@@ -14,7 +15,7 @@ use limit_names::LimitName;
 use plain::NewRow;
 use road::design::RoadDesign;
 
-// The most words of a line that are read, more than any command but `limit` has.
+/// The most words of a line that are read, more than any command but `limit` has. A `limit` line of so many may have been cut, and is wrong (the office's own).
 pub const MOST_WORDS: usize = 64;
 
 // The words of a line, and the place of the one that is read next.
@@ -40,7 +41,7 @@ impl<'a> Cursor<'_, 'a> {
 
     // Reads the word at the place.
     fn operand<T: Operand>(&mut self) -> Result<T, ParseError<'a>>
-        ensures read { MatchResult result (λ x. (self.old.at < length self.old.words.now) × T.says (word self.old.words.now self.old.at) x × Wanted T.expects (word self.old.words.now self.old.at)) (λ e. Blames self.old.words.now e × (e.at ≡ self.old.at + 1) × (e.expected ≡ T.expects) × Wrong self.old.words.now e) }
+        ensures read { MatchResult result (λ x. T.says (word self.old.words.now self.old.at) x × IsThere self.old.words.now self.old.at T.expects) (WrongAt self.old.words.now (self.old.at + 1) T.expects) }
         ensures next { OnOk result ((self.new.words ≡ self.old.words) × (self.new.at ≡ self.old.at + 1)) }
     {
         let value = self
@@ -54,7 +55,7 @@ impl<'a> Cursor<'_, 'a> {
 
     // That the line ends at the place.
     fn end(&self) -> Result<(), ParseError<'a>>
-        ensures { MatchResult result (λ _. length self.now.words.now ≡ self.now.at) (λ e. Blames self.now.words.now e × (e.at ≡ self.now.at + 1) × (e.expected ≡ want.EndOfLine) × Wrong self.now.words.now e) }
+        ensures { MatchResult result (λ _. length self.now.words.now ≡ self.now.at) (WrongAt self.now.words.now (self.now.at + 1) want.EndOfLine) }
     {
         if self.at < self.words.len() {
             return Err(self.wrong(Expected::EndOfLine));
@@ -64,7 +65,7 @@ impl<'a> Cursor<'_, 'a> {
 
     // Reads `before N`, or nothing where the line ends at the place.
     fn before(&mut self) -> Result<Option<u32>, ParseError<'a>>
-        ensures { MatchResult result (λ n. BeforeFrom self.old.words.now self.old.at n) (λ e. Blames self.old.words.now e × BeforeAt self.old.words.now self.old.at e.at e.expected × Wrong self.old.words.now e) }
+        ensures { MatchResult result (BeforeFrom self.old.words.now self.old.at) (WrongWhere self.old.words.now (BeforeAt self.old.words.now self.old.at)) }
     {
         match self.words.get(self.at) {
             None => return Ok(None),
@@ -76,6 +77,17 @@ impl<'a> Cursor<'_, 'a> {
         Ok(Some(row))
     }
 
+    // Reads a command that has no operands.
+    fn bare(&self, command: Command) -> Result<Command, ParseError<'a>>
+        requires named { (self.now.at ≡ 1) × (word self.now.words.now 0 ≡ name_word (name_of command)) }
+        requires alone { IsBare self.now.words.now command }
+        ensures { ReadAs (name_of command) self.now.words.now result }
+    {
+        self.end()?;
+        Ok(command)
+    }
+
+    // Reads a road's design.
     fn road(&mut self) -> Result<Command, ParseError<'a>>
         requires { (self.old.at ≡ 1) × (word self.old.words.now 0 ≡ codes "road") }
         ensures { ReadAs name.Road self.old.words.now result }
@@ -91,6 +103,7 @@ impl<'a> Cursor<'_, 'a> {
         Ok(Command::Road(design))
     }
 
+    // Reads the radius and the turn of a curve.
     fn label(&mut self) -> Result<Command, ParseError<'a>>
         requires { (self.old.at ≡ 1) × (word self.old.words.now 0 ≡ codes "label") }
         ensures { ReadAs name.Label self.old.words.now result }
@@ -101,6 +114,7 @@ impl<'a> Cursor<'_, 'a> {
         Ok(Command::Label { radius, turn })
     }
 
+    // Reads a straight row, and where it is put.
     fn straight(&mut self) -> Result<Command, ParseError<'a>>
         requires { (self.old.at ≡ 1) × (word self.old.words.now 0 ≡ codes "straight") }
         ensures { ReadAs name.Straight self.old.words.now result }
@@ -111,6 +125,7 @@ impl<'a> Cursor<'_, 'a> {
         Ok(Command::Sheet(SheetCommand::Add { row, before }))
     }
 
+    // Reads a curve row, and where it is put.
     fn curve(&mut self) -> Result<Command, ParseError<'a>>
         requires { (self.old.at ≡ 1) × (word self.old.words.now 0 ≡ codes "curve") }
         ensures { ReadAs name.Curve self.old.words.now result }
@@ -127,6 +142,7 @@ impl<'a> Cursor<'_, 'a> {
         Ok(Command::Sheet(SheetCommand::Add { row, before }))
     }
 
+    // Reads the number of a row.
     fn remove(&mut self) -> Result<Command, ParseError<'a>>
         requires { (self.old.at ≡ 1) × (word self.old.words.now 0 ≡ codes "remove") }
         ensures { ReadAs name.Remove self.old.words.now result }
@@ -136,6 +152,7 @@ impl<'a> Cursor<'_, 'a> {
         Ok(Command::Sheet(SheetCommand::Remove { row }))
     }
 
+    // Reads the number of a row and two lengths.
     fn set(&mut self) -> Result<Command, ParseError<'a>>
         requires { (self.old.at ≡ 1) × (word self.old.words.now 0 ≡ codes "set") }
         ensures { ReadAs name.Set self.old.words.now result }
@@ -147,38 +164,7 @@ impl<'a> Cursor<'_, 'a> {
         Ok(Command::Sheet(SheetCommand::Set { row, entry, exit }))
     }
 
-    fn rows(&self) -> Result<Command, ParseError<'a>>
-        requires { (self.now.at ≡ 1) × (word self.now.words.now 0 ≡ codes "rows") }
-        ensures { ReadAs name.Rows self.now.words.now result }
-    {
-        self.end()?;
-        Ok(Command::Rows)
-    }
-
-    fn report(&self) -> Result<Command, ParseError<'a>>
-        requires { (self.now.at ≡ 1) × (word self.now.words.now 0 ≡ codes "report") }
-        ensures { ReadAs name.Report self.now.words.now result }
-    {
-        self.end()?;
-        Ok(Command::Report)
-    }
-
-    fn check(&self) -> Result<Command, ParseError<'a>>
-        requires { (self.now.at ≡ 1) × (word self.now.words.now 0 ≡ codes "check") }
-        ensures { ReadAs name.Check self.now.words.now result }
-    {
-        self.end()?;
-        Ok(Command::Sheet(SheetCommand::Check))
-    }
-
-    fn fit(&self) -> Result<Command, ParseError<'a>>
-        requires { (self.now.at ≡ 1) × (word self.now.words.now 0 ≡ codes "fit") }
-        ensures { ReadAs name.Fit self.now.words.now result }
-    {
-        self.end()?;
-        Ok(Command::Sheet(SheetCommand::Fit))
-    }
-
+    // Reads the number of a row and an end of its curve.
     fn parameter(&mut self) -> Result<Command, ParseError<'a>>
         requires { (self.old.at ≡ 1) × (word self.old.words.now 0 ≡ codes "parameter") }
         ensures { ReadAs name.Parameter self.old.words.now result }
@@ -189,18 +175,10 @@ impl<'a> Cursor<'_, 'a> {
         Ok(Command::Sheet(SheetCommand::Parameter { row, at }))
     }
 
-    fn reopen(&self) -> Result<Command, ParseError<'a>>
-        requires { (self.now.at ≡ 1) × (word self.now.words.now 0 ≡ codes "reopen") }
-        ensures { ReadAs name.Reopen self.now.words.now result }
-    {
-        self.end()?;
-        Ok(Command::Sheet(SheetCommand::Reopen))
-    }
-
     // Reads a limit's name, and the name of a file after `table`.
     fn limit_name(&mut self) -> Result<(), ParseError<'a>>
         requires { (1 ≤ self.old.at) × ((self.old.at ≡ 1) ⊎ (self.old.at < length self.old.words.now)) × NamesBefore self.old.words.now (self.old.at + 1) × (length self.old.words.now < 64) }
-        ensures read { MatchResult result (λ _. NamesBefore self.new.words.now (self.new.at + 1)) (λ e. Blames self.old.words.now e × (1 < e.at) × LimitAt self.old.words.now e.at e.expected × Wrong self.old.words.now e) }
+        ensures read { MatchResult result (λ _. NamesBefore self.new.words.now (self.new.at + 1)) (WrongBehind self.old.words.now (LimitAt self.old.words.now)) }
         ensures next { OnOk result ((self.new.words ≡ self.old.words) × (self.old.at < self.new.at)) }
     {
         let LimitName::Table = self.operand()? else {
@@ -210,7 +188,7 @@ impl<'a> Cursor<'_, 'a> {
         Ok(())
     }
 
-    // A line of 64 words may have been cut.
+    // Reads the names of limits. A line of 64 words may have been cut.
     fn limit(&mut self) -> Result<Command, ParseError<'a>>
         requires { (self.old.at ≡ 1) × (word self.old.words.now 0 ≡ codes "limit") }
         ensures { ReadAs name.Limit self.old.words.now result }
@@ -239,17 +217,19 @@ fn command<'a>(words: &[&'a str]) -> Result<Command, ParseError<'a>>
         Name::Curve => cursor.curve(),
         Name::Remove => cursor.remove(),
         Name::Set => cursor.set(),
-        Name::Rows => cursor.rows(),
-        Name::Report => cursor.report(),
+        Name::Rows => cursor.bare(Command::Rows),
+        Name::Report => cursor.bare(Command::Report),
         Name::Limit => cursor.limit(),
-        Name::Check => cursor.check(),
-        Name::Fit => cursor.fit(),
+        Name::Check => cursor.bare(Command::Sheet(SheetCommand::Check)),
+        Name::Fit => cursor.bare(Command::Sheet(SheetCommand::Fit)),
         Name::Parameter => cursor.parameter(),
-        Name::Reopen => cursor.reopen(),
+        Name::Reopen => cursor.bare(Command::Sheet(SheetCommand::Reopen)),
     }
 }
 
-// The command that the words of a line say; `None` where there are none, and where the first begins with '#'.
+/// The command that the words of a line say; `None` where there are none, and where the first begins with '#'.
+///
+/// An error names the first word that is wrong, and what should have stood there; the words then say no command.
 pub fn parse<'a>(words: &[&'a str]) -> Result<Option<Command>, ParseError<'a>>
     ensures { Answers words.now result }
 {

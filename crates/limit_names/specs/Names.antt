@@ -1,7 +1,11 @@
 -- The words that name limits.
-use Rattle.std.specs.Prelude.{◌≡◌, ℕ, List, codes}
+use Rattle.std.specs.Prelude.{◌≡◌, ℕ, List, [], ◌∷◌, codes}
 use Rattle.limit_names.specs.declared.LimitName.{LimitName}
 use Rattle.limit_names.specs.declared.LimitName.TheVariants.{Comfort, Transition, Azimuth, Shift, Fifth, Table}
+
+-- the limits, in the order in which a message lists them
+abbrev pub limits : List LimitName
+limits = Comfort ∷ Transition ∷ Azimuth ∷ Shift ∷ Fifth ∷ Table ∷ []
 
 abbrev pub limit_word : LimitName → List ℕ
 limit_word Comfort = codes "comfort"

@@ -2,7 +2,7 @@
 use Rattle.std.proofs.Common.{◌≡◌, ℕ, ◌+◌, ◌≤◌, inl, inr, List, [], ◌∷◌, length, take, drop, Option, Some, None, option_map, IfSome, ap, ◌∙◌, subst, arith}
 use Rattle.std.specs.Borrow.{Bor}
 use Rattle.std.proofs.lemmas.List.{length-take, length-drop, take_all}
-use Rattle.commands.proofs.NameSteps.{plain_name}
+use Rattle.commands.proofs.NameSteps.{named_alone}
 use Rattle.limit_names.specs.declared.LimitName.{LimitName}
 use Rattle.choice.specs.declared.ChosenLimit.{ChosenLimit}
 use Rattle.choice.specs.declared.ChosenLimit.TheVariants.{Comfort, Transition, Azimuth, Shift, FifthOfTurn, Table}
@@ -45,7 +45,7 @@ taken_so ws taken l few named = omega (arith, takes ws (drop taken ws) l named, 
 behind_plain : (from : ℕ) (w : Bor (List ℕ)) (ws rest : List (Bor (List ℕ))) (at : ℕ) (file : List ℕ) (name : LimitName) → w.now ≡ limit_word name → (name ≡ names.Table → ⊥) → rest ≡ ws → FileAt (from + 1) rest at file → FileAt from (w ∷ ws) at file
 behind_plain from w [] [] at file name is other cut stands = absurd stands
 behind_plain from w [] (r ∷ rest) at file name is other cut stands = absurd (let none : length (r ∷ rest) ≡ 0 = ap length cut in omega arith)
-behind_plain from w (v ∷ ws) rest at file name is other cut stands = inr (plain_name w.now name is other, subst (λ l. FileAt (from + 1) l at file) cut stands)
+behind_plain from w (v ∷ ws) rest at file name is other cut stands = inr (named_alone w.now name is other, subst (λ l. FileAt (from + 1) l at file) cut stands)
 
 -- a file among the words behind a limit is a file among all
 pub file_behind : (from taken : ℕ) (ws rest : List (Bor (List ℕ))) (l : ChosenLimit) (at : ℕ) (file : List ℕ) → taken ≡ words_of l → NamedFirst ws l rest → FileAt (from + taken) rest at file → FileAt from ws at file

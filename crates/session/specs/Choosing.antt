@@ -7,7 +7,7 @@ use Rattle.choice.specs.declared.ChosenLimit.{ChosenLimit}
 use Rattle.choice.specs.declared.ChosenLimit.TheVariants.{Table}
 use Rattle.choice.specs.Governing.{name_of}
 use Rattle.text.specs.Shown.{shown}
-use Rattle.commands.specs.Names.{Plain}
+use Rattle.commands.specs.Names.{NamedAlone}
 use Rattle.session.specs.declared.choosing.NoLimits.{NoLimits}
 use Rattle.session.specs.declared.choosing.NoLimits.TheVariants.{Unreadable, NoMemory}
 use Rattle.session.specs.declared.choosing.NoTable.{NoTable}
@@ -31,7 +31,7 @@ FileAt from [] at file = ⊥
 FileAt from (w ∷ []) at file = ⊥
 FileAt from (w ∷ v ∷ ws) at file =
     ((w.now ≡ codes "table") × (((at ≡ from + 1) × (file ≡ v.now)) ⊎ FileAt (from + 2) ws at file))
-    ⊎ (Plain w.now × FileAt (from + 1) (v ∷ ws) at file)
+    ⊎ (NamedAlone w.now × FileAt (from + 1) (v ∷ ws) at file)
 
 -- Which file of a line cannot be read, and why.
 abbrev pub unreadable_text : (at : ℕ) (file why : List ℕ) → List ℕ

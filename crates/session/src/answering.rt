@@ -19,7 +19,7 @@ use desk::order::Order;
 use road::design::RoadDesign;
 use std::io;
 use std::io::Write;
-use text::lines::LONGEST;
+use text::lines::LONGEST_LINE;
 use text::shown::Shown;
 use text::words::words_of;
 
@@ -238,7 +238,7 @@ pub(crate) fn answer<W: Write>(
         None => {
             writeln!(
                 out,
-                "error {number}: the line is longer than {LONGEST} bytes"
+                "error {number}: the line is longer than {LONGEST_LINE} bytes"
             )?;
             Ok(Verdict::Wrong)
         }

@@ -5,7 +5,7 @@ ghost use Rattle.text.specs.Lines.{Grown, NoNewline, WithinLongest};
 use std::alloc::{AllocError, Global};
 use std::marker::Model;
 
-// The bytes before the first newline, and those after it, if there is one.
+/// The bytes before the first newline, and those after it, if there is one.
 pub fn split_line(bytes: &[u8]) -> Option<(&[u8], &[u8])>
     ensures { MatchOption result (NoNewline bytes.now) (λ p. (bytes.now ≡ p.0.now ++ (10 ∷ p.1.now)) × NoNewline p.0.now) }
 {
@@ -13,10 +13,10 @@ pub fn split_line(bytes: &[u8]) -> Option<(&[u8], &[u8])>
     Some((&bytes[..newline], &bytes[newline + 1..]))
 }
 
-// The longest line that is read, in bytes.
-pub const LONGEST: usize = 16_384;
+/// The longest line that is read, in bytes without its newline: the office's own.
+pub const LONGEST_LINE: usize = 16_384;
 
-// The front of a line, up to the longest that is read; `None` where more came.
+/// The line that is being read, as far as it has come: its bytes up to `LONGEST_LINE`. Past that it is too long, and nothing of it is kept.
 #[derive(Drop)]
 pub struct Pending {
     heap: Global,
@@ -36,6 +36,7 @@ impl Model for Pending {
 }
 
 impl Pending {
+    /// A line of which nothing has come.
     pub fn new(heap: Global) -> Pending
         ensures { result ≡ Some [] }
     {
@@ -45,7 +46,7 @@ impl Pending {
         }
     }
 
-    // Adds what came next of the line. Where memory is short nothing is added.
+    /// Adds what came next of the line. Where memory is short nothing is added.
     pub fn add(&mut self, part: &[u8]) -> Result<(), AllocError>
         ensures ok { OnOk result (Grown self.old part.now self.new) }
         ensures err { OnErr result (self.new ≡ self.old) }
@@ -54,21 +55,21 @@ impl Pending {
         let Some(front) = &mut self.front else {
             return Ok(());
         };
-        if part.len() > LONGEST - front.len() {
+        if part.len() > LONGEST_LINE - front.len() {
             self.front = None;
             return Ok(());
         }
         front.extend_from_slice(part)
     }
 
-    // Whether nothing of the line has come.
+    /// Whether nothing of the line has come.
     pub fn is_empty(&self) -> bool
         ensures { Decides result (self.now ≡ Some []) }
     {
         self.front.as_ref().is_some_and(|front| front.is_empty())
     }
 
-    // The line, unless it is too long.
+    /// The line, or `None` where it is too long.
     pub fn line(&self) -> Option<&[u8]>
         ensures line { MatchOption result (self.now ≡ None) (λ line. self.now ≡ Some line.now) }
         ensures within { IfSome result (λ line. length line.now ≤ 16_384) }
@@ -76,7 +77,7 @@ impl Pending {
         self.front.as_deref()
     }
 
-    // Begins the next line.
+    /// Begins the next line.
     pub fn clear(&mut self)
         ensures { self.new ≡ Some [] }
     {

@@ -10,7 +10,7 @@ fn is_numeral(word: &str) -> bool
     !word.is_empty() && word.bytes().all(|b| b.is_ascii_digit())
 }
 
-// The decimal value of a numeral, where one beyond 32 bits counts as the greatest; of any other word `None`.
+/// The decimal value of a numeral, where one beyond 32 bits counts as 2^32 - 1; `None` of any other word.
 pub fn number(word: &str) -> Option<u32>
     ensures { SomeIff result (IsNumeral 10 word.now) (min (digits_value 10 word.now) (2 ^ 32 - 1)) }
 {

@@ -5,7 +5,7 @@ ghost use Rattle.text.specs.Shown.{shown_char, shown};
 
 use std::fmt;
 
-// A character; a control character is shown as an escape.
+/// A character, which shows as itself; a control character shows as an escape.
 #[derive(Clone, Copy, PartialEq, Eq, Debug)]
 pub struct ShownChar(pub char);
 
@@ -17,7 +17,7 @@ impl fmt::Display for ShownChar {
     }
 }
 
-// A text, character by character.
+/// A text, which shows character by character as `ShownChar` does.
 #[derive(Clone, Copy, PartialEq, Eq, Debug)]
 pub struct Shown<'a>(pub &'a str);
 
@@ -29,7 +29,7 @@ impl fmt::Display for Shown<'_> {
     }
 }
 
-// An escape is written char by char: that an escape as a whole is so shown was tried, and not proved.
+// Writes a character as it is shown.
 fn write_char<W: fmt::Write>(f: &mut fmt::Formatter<W>, c: char) -> fmt::Result
     ensures { WritesOnOk W.write_str_gives f.old result (shown_char c) f.new }
 {
@@ -42,6 +42,7 @@ fn write_char<W: fmt::Write>(f: &mut fmt::Formatter<W>, c: char) -> fmt::Result
     f.write_char(c)
 }
 
+// Writes a text as it is shown.
 fn write_text<W: fmt::Write>(f: &mut fmt::Formatter<W>, text: &str) -> fmt::Result
     ensures { WritesOnOk W.write_str_gives f.old result (shown text.now) f.new }
 {

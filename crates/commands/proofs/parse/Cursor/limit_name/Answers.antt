@@ -8,7 +8,7 @@ returns-in_default c =
     let read = c.in_ok-operand.ensures.read in
     let next = c.in_ok-operand.ensures.next in
     record {
-      read = rw (next.0, next.1) (name_read c.args.self.now.words.now c.args.self.now.at c.in_ok-operand.field-0 c.requires.0 read.0 c.requires.2 read.1 c.in_default.not-Table);
+      read = rw (next.0, next.1) (name_read c.args.self.now.words.now c.args.self.now.at c.in_ok-operand.field-0 c.requires.0 read.1.0 c.requires.2 read.0 c.in_default.not-Table);
       next = search rules;
     }
 
