@@ -8,7 +8,7 @@ use Rattle.limits.specs.Least.{LeastOf}
 use Rattle.choice.specs.Chosen.{chosen}
 use Rattle.choice.specs.declared.ChosenLimit.{ChosenLimit}
 use Rattle.choice.specs.declared.ChosenLimit.TheVariants.{Comfort, Transition, Azimuth, Shift, FifthOfTurn, Table}
-use Rattle.choice.specs.declared.governing.Governing.{Governing}
+use Rattle.choice.specs.declared.governor.Governing.{Governing}
 use Rattle.choice.specs.declared.in_force.LimitsInForce.{LimitsInForce}
 use Rattle.choice.specs.declared.in_force.LimitsInForce.TheVariants.{Compulsory, Named}
 

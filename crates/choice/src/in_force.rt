@@ -1,18 +1,41 @@
-// The limits in force for a sheet.
+//! The limits in force for a sheet.
+ghost use Rattle.choice.specs.Governing.{limits_of, Governed};
 ghost use Rattle.choice.specs.InForce.{in_force, in_force_lawful};
 
 use crate::ChosenLimit;
+use crate::governor::{Governing, first_governing};
 use limits::all::AllOf;
 use limits::limit::Limit;
 use limits::place::Place;
 use norma::compulsory::COMPULSORY;
 
+/// The limits under which a sheet is checked and fitted: they hold together, as a pile.
 #[derive(Drop)]
 pub enum LimitsInForce {
-    // those that every clothoid has to keep
+    /// those that every clothoid has to keep: comfort, transition, azimuth and shift (4.4.3)
     Compulsory,
-    // those that were named, piled in that order
+    /// those that were named, piled in that order
     Named(Vec<ChosenLimit>),
+}
+
+impl LimitsInForce {
+    /// The limit that governs a place; there is none where no limit is in force.
+    pub fn governing(&self, place: &Place) -> Option<Governing>
+        ensures { Governed (in_force self.now place.now) (limits_of self.now) place.now result }
+    {
+        match self {
+            LimitsInForce::Compulsory => {
+                let four = [
+                    ChosenLimit::Comfort,
+                    ChosenLimit::Transition,
+                    ChosenLimit::Azimuth,
+                    ChosenLimit::Shift,
+                ];
+                first_governing(&four, place)
+            }
+            LimitsInForce::Named(limits) => first_governing(limits.as_slice(), place),
+        }
+    }
 }
 
 impl Limit for LimitsInForce {

@@ -1,14 +1,18 @@
-// A limit that is chosen by name at run time: one of the Norma's, or a client's table.
+//! A choice of limits by their names, made at run time: one limit of the Norma's or a client's table, the limits in force for a sheet, and which of them governs a place.
 #![tactic(auto)]
 
-pub mod governing;
+pub mod governor;
 pub mod in_force;
 
 ghost use Rattle.std.specs.Prelude.{◌≡◌};
 ghost use Rattle.limits.specs.declared.place.Place.{Place};
 ghost use Rattle.choice.specs.Chosen.{chosen, chosen_lawful};
+ghost use Rattle.choice.specs.Governing.{name_of};
 
 use client_table::table::ClientTable;
+pub use governor::Governing;
+pub use in_force::LimitsInForce;
+use limit_names::LimitName;
 use limits::either::Either::{self, One, Other};
 use limits::limit::Limit;
 use limits::place::Place;
@@ -18,14 +22,20 @@ use norma::fifth::FifthOfTurnLimit;
 use norma::shift::ShiftLimit;
 use norma::transition::TransitionLimit;
 
+/// A limit that is chosen by its name.
 #[derive(Drop)]
 pub enum ChosenLimit {
+    /// the change of the centripetal acceleration (4.4.3.1)
     Comfort,
+    /// the transition of the superelevation (4.4.3.2)
     Transition,
+    /// a turn of the azimuth by 1/18 radian (4.4.3.3)
     Azimuth,
+    /// a shift of the curve by half a metre (4.4.3.3)
     Shift,
+    /// a fifth of the curve's turn (4.4.3.3), which the Norma only recommends
     FifthOfTurn,
-    // the bytes of the client's file, in the memory that it was loaded into
+    /// a client's own: the bytes of the client's file, in the memory that it was loaded into
     Table(Vec<u8>),
 }
 
@@ -36,6 +46,20 @@ type OneLimit<'a> = Either<
 >;
 
 impl ChosenLimit {
+    /// Its name, as a `limit` line has it.
+    pub fn name(&self) -> LimitName
+        ensures { result ≡ name_of self.now }
+    {
+        match self {
+            ChosenLimit::Comfort => LimitName::Comfort,
+            ChosenLimit::Transition => LimitName::Transition,
+            ChosenLimit::Azimuth => LimitName::Azimuth,
+            ChosenLimit::Shift => LimitName::Shift,
+            ChosenLimit::FifthOfTurn => LimitName::Fifth,
+            ChosenLimit::Table(_) => LimitName::Table,
+        }
+    }
+
     // The limit itself.
     fn limit(&self) -> OneLimit<'_>
         ensures { (place : Place) → ⟦<OneLimit<'static> as Limit>⟧.admitted result place ≡ chosen self.now place }

@@ -3,7 +3,7 @@ use Rattle.std.specs.Prelude.{ℕ, List, ◌++◌, Option, Some, None, codes, de
 use Rattle.limit_names.specs.Names.{limit_word}
 use Rattle.rows.specs.declared.row.Sense.{Sense}
 use Rattle.rows.specs.declared.row.Sense.TheVariants.{Left, Right}
-use Rattle.choice.specs.declared.governing.Governing.{Governing}
+use Rattle.choice.specs.declared.governor.Governing.{Governing}
 use Rattle.report.specs.declared.table_row.TableRow.{TableRow}
 use Rattle.report.specs.declared.table_row.TableRow.TheVariants.{Straight, Curve}
 use Rattle.report.specs.Columns.{on_the_right, metres_column, gon_column, percent_column}

@@ -4,7 +4,7 @@ ghost use Rattle.report.specs.Rows.{Tabulates, GovernsCurve};
 ghost use Rattle.report.specs.Shown.{kind_text, governed_text, table_row_text};
 
 use crate::column::{GonColumn, MetresColumn, PercentColumn};
-use choice::governing::Governing;
+use choice::governor::Governing;
 use choice::in_force::LimitsInForce;
 use road::road::Road;
 use roots::clothoid_parameter;

@@ -3,7 +3,7 @@ use Rattle.limits.specs.Admission.{In}
 use Rattle.limits.specs.Least.{LeastOf}
 use Rattle.choice.specs.Chosen.{chosen}
 use Rattle.choice.specs.declared.ChosenLimit.TheVariants.{Comfort}
-use Rattle.choice.proofs.governing.first_governing.Given as goal
+use Rattle.choice.proofs.governor.first_governing.Given as goal
 
 -- the limits before have other least lengths
 abbrev pub invariant-loop-at : goal.invariant-loop-at

@@ -6,7 +6,7 @@ use Rattle.choice.specs.Chosen.{chosen, chosen_lawful}
 use Rattle.choice.specs.Governing.{name_of}
 use Rattle.choice.specs.declared.ChosenLimit.TheVariants.{Comfort}
 use Rattle.choice.proofs.Governors.{one_least, none_there, option_same, option_other, one_more}
-use Rattle.choice.proofs.governing.first_governing.Goals as goal
+use Rattle.choice.proofs.governor.first_governing.Goals as goal
 
 pub loop-at-preserved : goal.loop-at-preserved
 loop-at-preserved c =
