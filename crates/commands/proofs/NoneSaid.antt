@@ -17,7 +17,7 @@ use Rattle.commands.specs.declared.mistake.Expected.TheVariants as want
 use Rattle.commands.specs.declared.mistake.ParseError.{ParseError}
 use Rattle.commands.specs.Words.{none, word}
 use Rattle.limit_names.specs.Names.{ALimit}
-use Rattle.commands.specs.Names.{name_word, name_of, Names}
+use Rattle.commands.specs.Names.{name_word, name_of, names, Names}
 use Rattle.commands.specs.Mistakes.{Blames, Wanted, MayEnd, Wrong, In, LimitAt, StandsAt, Expects}
 use Rattle.commands.specs.Said.{Operands, Says}
 use Rattle.commands.proofs.NameSteps.{left_over, after_first}
@@ -217,22 +217,12 @@ right ws command.Rows said at x some stands = right_in ws (want.EndOfLine ∷ []
 right ws command.Report said at x some stands = right_in ws (want.EndOfLine ∷ []) at x some (ended ws 1 said, tt) stands
 right ws command.Limit said at x some stands = right_limit ws at x said.0 said.1 said.2 some stands
 
-name_called : List ℕ → Name
-name_called w =
-    cond (bytes_eq w (codes "road")) Road (
-    cond (bytes_eq w (codes "label")) Label (
-    cond (bytes_eq w (codes "straight")) Straight (
-    cond (bytes_eq w (codes "curve")) Curve (
-    cond (bytes_eq w (codes "remove")) Remove (
-    cond (bytes_eq w (codes "set")) Set (
-    cond (bytes_eq w (codes "rows")) Rows (
-    cond (bytes_eq w (codes "report")) Report (
-    cond (bytes_eq w (codes "limit")) Limit (
-    cond (bytes_eq w (codes "check")) Check (
-    cond (bytes_eq w (codes "fit")) Fit (
-    cond (bytes_eq w (codes "parameter")) Parameter Reopen)))))))))))
+-- the first of the names that has the word
+name_called : List ℕ → List Name → Name
+name_called w [] = Reopen
+name_called w (n ∷ ns) = cond (bytes_eq w (name_word n)) n (name_called w ns)
 
-called : (n : Name) → name_called (name_word n) ≡ n
+called : (n : Name) → name_called (name_word n) names ≡ n
 unfolding name_called
 called Road = refl
 called Label = refl
@@ -249,7 +239,7 @@ called Parameter = refl
 called Reopen = refl
 
 one_name : (m n : Name) → name_word m ≡ name_word n → m ≡ n
-one_name m n e = sym (called m) ∙ ap name_called e ∙ called n
+one_name m n e = sym (called m) ∙ ap (λ w. name_called w names) e ∙ called n
 
 not_wrong : (ws : List (Bor (List ℕ))) (at : ℕ) (x : Expected) (found : Option (Bor (List ℕ))) → MatchOption found (at ≡ length ws + 1) (λ w. (0 < at) × (at ≤ length ws) × (w.now ≡ word ws (at - 1))) → (at ≤ length ws → Wanted x (word ws (at - 1)) → ⊥) × (at ≡ length ws + 1 → MayEnd x → ⊥) → Right ws x (at - 1) → ⊥
 not_wrong ws at x None placed wrong right = wrong.1 placed (right.1 (omega arith))

@@ -1,5 +1,5 @@
 // A line's words, read as a command.
-ghost use Rattle.std.specs.Prelude.{◌≡◌, ◌+◌, ◌<◌, ◌≤◌, ◌⊎◌, length, codes, MatchResult, OnOk};
+ghost use Rattle.std.specs.Prelude.{◌≡◌, ◌+◌, ◌<◌, ◌≤◌, ◌⊎◌, length, MatchResult, OnOk};
 ghost use Rattle.commands.specs.declared.mistake.Expected.TheVariants as want;
 ghost use Rattle.commands.specs.declared.name.Name.TheVariants as name;
 ghost use Rattle.commands.specs.Words.{word};
@@ -89,7 +89,7 @@ impl<'a> Cursor<'_, 'a> {
 
     // Reads a road's design.
     fn road(&mut self) -> Result<Command, ParseError<'a>>
-        requires { (self.old.at ≡ 1) × (word self.old.words.now 0 ≡ codes "road") }
+        requires { (self.old.at ≡ 1) × (word self.old.words.now 0 ≡ name_word name.Road) }
         ensures { ReadAs name.Road self.old.words.now result }
     {
         let design = RoadDesign {
@@ -105,7 +105,7 @@ impl<'a> Cursor<'_, 'a> {
 
     // Reads the radius and the turn of a curve.
     fn label(&mut self) -> Result<Command, ParseError<'a>>
-        requires { (self.old.at ≡ 1) × (word self.old.words.now 0 ≡ codes "label") }
+        requires { (self.old.at ≡ 1) × (word self.old.words.now 0 ≡ name_word name.Label) }
         ensures { ReadAs name.Label self.old.words.now result }
     {
         let radius = self.operand()?;
@@ -116,7 +116,7 @@ impl<'a> Cursor<'_, 'a> {
 
     // Reads a straight row, and where it is put.
     fn straight(&mut self) -> Result<Command, ParseError<'a>>
-        requires { (self.old.at ≡ 1) × (word self.old.words.now 0 ≡ codes "straight") }
+        requires { (self.old.at ≡ 1) × (word self.old.words.now 0 ≡ name_word name.Straight) }
         ensures { ReadAs name.Straight self.old.words.now result }
     {
         let length = self.operand()?;
@@ -127,7 +127,7 @@ impl<'a> Cursor<'_, 'a> {
 
     // Reads a curve row, and where it is put.
     fn curve(&mut self) -> Result<Command, ParseError<'a>>
-        requires { (self.old.at ≡ 1) × (word self.old.words.now 0 ≡ codes "curve") }
+        requires { (self.old.at ≡ 1) × (word self.old.words.now 0 ≡ name_word name.Curve) }
         ensures { ReadAs name.Curve self.old.words.now result }
     {
         let sense = self.operand()?;
@@ -144,7 +144,7 @@ impl<'a> Cursor<'_, 'a> {
 
     // Reads the number of a row.
     fn remove(&mut self) -> Result<Command, ParseError<'a>>
-        requires { (self.old.at ≡ 1) × (word self.old.words.now 0 ≡ codes "remove") }
+        requires { (self.old.at ≡ 1) × (word self.old.words.now 0 ≡ name_word name.Remove) }
         ensures { ReadAs name.Remove self.old.words.now result }
     {
         let row = self.operand()?;
@@ -154,7 +154,7 @@ impl<'a> Cursor<'_, 'a> {
 
     // Reads the number of a row and two lengths.
     fn set(&mut self) -> Result<Command, ParseError<'a>>
-        requires { (self.old.at ≡ 1) × (word self.old.words.now 0 ≡ codes "set") }
+        requires { (self.old.at ≡ 1) × (word self.old.words.now 0 ≡ name_word name.Set) }
         ensures { ReadAs name.Set self.old.words.now result }
     {
         let row = self.operand()?;
@@ -166,7 +166,7 @@ impl<'a> Cursor<'_, 'a> {
 
     // Reads the number of a row and an end of its curve.
     fn parameter(&mut self) -> Result<Command, ParseError<'a>>
-        requires { (self.old.at ≡ 1) × (word self.old.words.now 0 ≡ codes "parameter") }
+        requires { (self.old.at ≡ 1) × (word self.old.words.now 0 ≡ name_word name.Parameter) }
         ensures { ReadAs name.Parameter self.old.words.now result }
     {
         let row = self.operand()?;
@@ -190,7 +190,7 @@ impl<'a> Cursor<'_, 'a> {
 
     // Reads the names of limits. A line of 64 words may have been cut.
     fn limit(&mut self) -> Result<Command, ParseError<'a>>
-        requires { (self.old.at ≡ 1) × (word self.old.words.now 0 ≡ codes "limit") }
+        requires { (self.old.at ≡ 1) × (word self.old.words.now 0 ≡ name_word name.Limit) }
         ensures { ReadAs name.Limit self.old.words.now result }
     {
         if self.words.len() >= MOST_WORDS {
