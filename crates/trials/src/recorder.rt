@@ -11,7 +11,7 @@ use series::mark::Sheet;
 use series::watcher::Watcher;
 
 // More calls than any trial makes.
-pub(crate) const CALLS: usize = 12;
+pub(crate) const CALLS: usize = 9;
 
 #[derive(Drop)]
 pub(crate) struct Recorder {
@@ -21,7 +21,7 @@ pub(crate) struct Recorder {
 
 impl Watcher for Recorder {
     // Where there is a slot, it gets the answer.
-    ghost sees = { λ before seen after. before.count < 12 → (answer : Answer) × (findings : List Finding) × (seen.answer ≡ told answer findings) × (after.answers ≡ slice_set before.answers before.count answer) × (after.count ≡ before.count + 1) };
+    ghost sees = { λ before seen after. before.count < 9 → (answer : Answer) × (findings : List Finding) × (seen.answer ≡ told answer findings) × (after.answers ≡ slice_set before.answers before.count answer) × (after.count ≡ before.count + 1) };
 
     fn see(&mut self, _sheet: &Sheet, _rows: &[RowRecord], _found: &[Finding], answer: Answer) {
         if self.count < CALLS {
