@@ -1,8 +1,7 @@
 // A watcher that keeps the answers.
-ghost use Rattle.std.specs.Prelude.{◌≡◌, ◌<◌, ◌+◌, List, length, slice_set};
-ghost use Rattle.findings.specs.declared.finding.Finding.{Finding};
+ghost use Rattle.std.specs.Prelude.{◌≡◌, ◌<◌, ◌+◌, length, slice_set};
 ghost use Rattle.series.specs.declared.answer.Answer.{Answer};
-ghost use Rattle.series.specs.Calls.{told};
+ghost use Rattle.trials.specs.Told.{ToldAs};
 
 use findings::finding::Finding;
 use rows::record::RowRecord;
@@ -10,7 +9,7 @@ use series::answer::Answer;
 use series::mark::Sheet;
 use series::watcher::Watcher;
 
-// More calls than any trial makes.
+// As many calls as the test makes.
 pub(crate) const CALLS: usize = 9;
 
 #[derive(Drop)]
@@ -21,7 +20,7 @@ pub(crate) struct Recorder {
 
 impl Watcher for Recorder {
     // Where there is a slot, it gets the answer.
-    ghost sees = { λ before seen after. before.count < 9 → (answer : Answer) × (findings : List Finding) × (seen.answer ≡ told answer findings) × (after.answers ≡ slice_set before.answers before.count answer) × (after.count ≡ before.count + 1) };
+    ghost sees = { λ w seen w'. w.count < 9 → (answer : Answer) × ToldAs answer seen.answer × (w'.answers ≡ slice_set w.answers w.count answer) × (w'.count ≡ w.count + 1) };
 
     fn see(&mut self, _sheet: &Sheet, _rows: &[RowRecord], _found: &[Finding], answer: Answer) {
         if self.count < CALLS {
