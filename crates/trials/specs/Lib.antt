@@ -1,1 +1,2 @@
 pub mod Own
+pub mod Told

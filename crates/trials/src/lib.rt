@@ -1,15 +1,19 @@
-// Trials of the library on cases worked out elsewhere. Each is proved safe, and then run.
+//! Tests of what the program does not show: row memory that is too short or holds garbage, what it holds after a refused call, limits of one's own,
+//! numbers that no input reaches, and a series of calls with a watcher. Each test is proved safe, and then run.
+//! What lines of input show stands in `examples/`, which `.ci/program` runs.
 #![tactic(auto)]
 
 #[cfg(test)]
-mod limits_of_places;
+mod garbage;
+#[cfg(test)]
+mod made;
+#[cfg(test)]
+mod memories;
+#[cfg(test)]
+mod numbers;
 #[cfg(test)]
 mod own;
 #[cfg(test)]
-mod parameters;
+mod recorder;
 #[cfg(test)]
-mod roads;
-#[cfg(test)]
-mod superelevations;
-#[cfg(test)]
-mod tables;
+mod watched;

@@ -1,36 +1,62 @@
-// Limits of a client's own.
-ghost use Rattle.std.specs.Prelude.{false};
-ghost use Rattle.trials.specs.Own.{none_lawful};
+// A limit of one's own, of which only the questions are written: its least length is found by them.
+ghost use Rattle.trials.specs.Own.{own, own_lawful};
 
-use limits::limit::Limit;
+use crate::made::place;
+use limits::all::AllOf;
+use limits::either::Either;
+use limits::limit::{LONGEST, Limit};
+use limits::pile::Pile;
 use limits::place::Place;
+use norma::compulsory::{COMPULSORY, CompulsoryPile};
+use norma::fifth::FifthOfTurnLimit;
+use std::process::Abort;
+use std::test::Fail;
 
-// A limit of which only the questions are used: its least length is found by them.
+// A clothoid that a driver sees as one: at least 30 m.
 #[derive(Clone, Copy)]
-pub struct Questioned<L> {
-    pub limit: L,
-}
+pub(crate) struct OwnLimit;
 
-impl<L: Limit> Limit for Questioned<L> {
-    ghost admitted = { λ questioned place. L.Limit.admitted questioned.limit place };
+impl Limit for OwnLimit {
+    ghost admitted = { λ _ _. own };
 
-    ghost lawful = { λ questioned place. L.Limit.lawful questioned.limit place };
+    ghost lawful = { λ _ _. own_lawful };
 
-    fn admits(&self, place: &Place, length: u32) -> bool {
-        self.limit.admits(place, length)
+    fn admits(&self, _place: &Place, length: u32) -> bool {
+        30_000 <= length && length <= LONGEST
     }
 }
 
-// Admits nothing anywhere.
-#[derive(Clone, Copy)]
-pub struct NoLength;
+// At 1,000 m the least length is that one; no shorter length is admitted, and none above the longest.
+fn asks<L: Limit>(rt: &impl Abort, limit: &L, least: u32) -> Result<(), Fail> {
+    let place = place(1_000_000)?;
+    assert_eq!(rt; limit.least_length(&place), Some(least));
+    assert!(rt; !limit.admits(&place, least.saturating_sub(1)));
+    assert!(rt; limit.admits(&place, least));
+    assert!(rt; limit.admits(&place, LONGEST));
+    assert!(rt; !limit.admits(&place, LONGEST + 1));
+    Ok(())
+}
 
-impl Limit for NoLength {
-    ghost admitted = { λ _ _ _. false };
+#[test]
+fn by_questions(rt: HostRuntime) -> Result<(), Fail> {
+    asks(&rt, &OwnLimit, 30_000)
+}
 
-    ghost lawful = { λ _ _. none_lawful };
-
-    fn admits(&self, _place: &Place, _length: u32) -> bool {
-        false
-    }
+// Alone, in a pile and by reference, chosen, and in a list.
+#[test]
+fn piles_and_lists(rt: HostRuntime) -> Result<(), Fail> {
+    let pile = Pile {
+        first: OwnLimit,
+        second: Pile {
+            first: &COMPULSORY,
+            second: FifthOfTurnLimit,
+        },
+    };
+    asks(&rt, &pile, 188_502)?;
+    let limits: [Either<OwnLimit, CompulsoryPile>; 2] = [
+        Either::One(OwnLimit),
+        Either::Other(COMPULSORY),
+    ];
+    asks(&rt, &limits[0], 30_000)?;
+    asks(&rt, &AllOf { limits: &limits }, 111_112)
 }

@@ -1,0 +1,31 @@
+// A watcher that keeps the outcomes.
+ghost use Rattle.std.specs.Prelude.{◌≡◌, ◌<◌, ◌+◌, length, slice_set};
+ghost use Rattle.series.specs.declared.outcome.Outcome.{Outcome};
+ghost use Rattle.trials.specs.Told.{ToldAs};
+
+use findings::finding::Finding;
+use rows::record::RowRecord;
+use series::any_sheet::Sheet;
+use series::outcome::Outcome;
+use series::watcher::Watcher;
+
+// As many calls as the test makes.
+pub(crate) const CALLS: usize = 9;
+
+#[derive(Drop)]
+pub(crate) struct Recorder {
+    pub outcomes: [Outcome; CALLS],
+    pub count: usize,
+}
+
+impl Watcher for Recorder {
+    // Where there is a slot, it gets the outcome.
+    ghost sees = { λ before seen after. before.count < 9 → (outcome : Outcome) × ToldAs outcome seen.answer × (after.outcomes ≡ slice_set before.outcomes before.count outcome) × (after.count ≡ before.count + 1) };
+
+    fn see(&mut self, _sheet: &Sheet, _rows: &[RowRecord], _found: &[Finding], outcome: Outcome) {
+        if self.count < CALLS {
+            self.outcomes[self.count] = outcome;
+            self.count += 1;
+        }
+    }
+}
