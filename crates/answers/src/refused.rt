@@ -90,7 +90,7 @@ fn write_value_of_call<W: fmt::Write>(
             let length = above_longest(entry, exit);
             write!(f, ", and is {length}")
         }
-        (Refusal::NoSuchPlace { row }, _) => write!(f, ", and is {row}"),
+        (Refusal::NoSuchRow { row }, _) => write!(f, ", and is {row}"),
         _ => Ok(()),
     }
 }

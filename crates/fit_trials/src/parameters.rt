@@ -87,8 +87,8 @@ fn refusals(rt: HostRuntime) -> Result<(), Fail> {
         Refusal::ShortMemory { row: last },
     );
     refused(&rt, &sheet, &[], 1, Refusal::ShortMemory { row: 1 });
-    refused(&rt, &sheet, &rows[0..3], 3, Refusal::NoSuchPlace { row: 3 });
-    refused(&rt, &sheet, &rows, last, Refusal::NoSuchPlace { row: last });
+    refused(&rt, &sheet, &rows[0..3], 3, Refusal::NoSuchRow { row: 3 });
+    refused(&rt, &sheet, &rows, last, Refusal::NoSuchRow { row: last });
     refused(&rt, &sheet, &rows, 1, Refusal::NotACurve { row: 1 });
     // somebody wrote over a row
     rows[0] = GARBAGE;

@@ -37,7 +37,7 @@ impl Draft {
         let row = given_row(place, new)?;
         records(rows, self.count, place)?;
         if place > self.count {
-            return Err(Refusal::NoSuchPlace { row: place });
+            return Err(Refusal::NoSuchRow { row: place });
         }
         if self.count >= MOST_ROWS {
             return Err(Refusal::Full { row: place });
@@ -56,7 +56,7 @@ impl Draft {
         records(rows, self.count, row)?;
         let mut roll = Roll::over(rows, self.count);
         roll.remove(row, RowRecord::BLANK)
-            .map_err(|_| Refusal::NoSuchPlace { row })?;
+            .map_err(|_| Refusal::NoSuchRow { row })?;
         self.count -= 1;
         Ok(())
     }

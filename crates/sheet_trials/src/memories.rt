@@ -122,7 +122,7 @@ fn most_rows(rt: HostRuntime) -> Result<(), Fail> {
     );
     assert_eq!(rt;
         draft.add(&mut rows, 4_001, NewRow::Straight { length: 1 }),
-        Err(Refusal::NoSuchPlace { row: 4_001 })
+        Err(Refusal::NoSuchRow { row: 4_001 })
     );
     assert_eq!(rt; draft.len(), 4_000);
     assert_eq!(rt; rows == before, true);

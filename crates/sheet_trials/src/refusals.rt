@@ -140,8 +140,8 @@ fn adding_places(rt: HostRuntime) -> Result<(), Fail> {
     refused_adding(&rt, 0, 0, new, Refusal::ShortMemory { row: 0 })?;
     // the place is beyond the count, be there room or not
     let last = usize::MAX;
-    refused_adding(&rt, 4, 4, new, Refusal::NoSuchPlace { row: 4 })?;
-    refused_adding(&rt, 3, last, new, Refusal::NoSuchPlace { row: last })?;
+    refused_adding(&rt, 4, 4, new, Refusal::NoSuchRow { row: 4 })?;
+    refused_adding(&rt, 3, last, new, Refusal::NoSuchRow { row: last })?;
     // the rows fill the memory
     refused_adding(&rt, 3, 3, new, Refusal::Full { row: 3 })?;
     refused_adding(&rt, 3, 0, new, Refusal::Full { row: 0 })?;
@@ -156,8 +156,8 @@ fn adding_places(rt: HostRuntime) -> Result<(), Fail> {
 fn taking_out(rt: HostRuntime) -> Result<(), Fail> {
     let last = usize::MAX;
     refused_taking_out(&rt, 2, 3, Refusal::ShortMemory { row: 3 })?;
-    refused_taking_out(&rt, 4, 3, Refusal::NoSuchPlace { row: 3 })?;
-    refused_taking_out(&rt, 3, last, Refusal::NoSuchPlace { row: last })?;
+    refused_taking_out(&rt, 4, 3, Refusal::NoSuchRow { row: 3 })?;
+    refused_taking_out(&rt, 3, last, Refusal::NoSuchRow { row: last })?;
     // the gap closes, and the freed slot gets the blank and is used again
     let (mut draft, mut rows) = draft()?;
     assert_eq!(rt; draft.take_out(&mut rows, 0), Ok(()));
@@ -178,8 +178,8 @@ fn setting(rt: HostRuntime) -> Result<(), Fail> {
     refused_setting(&rt, 2, 9, (0, 2_000_001), Refusal::HandLength { row: 9 })?;
     refused_setting(&rt, 4, 1, (0, u32::MAX), Refusal::HandLength { row: 1 })?;
     refused_setting(&rt, 2, 9, (0, 0), Refusal::ShortMemory { row: 9 })?;
-    refused_setting(&rt, 4, 3, (0, 0), Refusal::NoSuchPlace { row: 3 })?;
-    refused_setting(&rt, 3, last, (0, 0), Refusal::NoSuchPlace { row: last })?;
+    refused_setting(&rt, 4, 3, (0, 0), Refusal::NoSuchRow { row: 3 })?;
+    refused_setting(&rt, 3, last, (0, 0), Refusal::NoSuchRow { row: last })?;
     refused_setting(&rt, 3, 2, (0, 0), Refusal::NotACurve { row: 2 })?;
     let (mut draft, mut rows) = draft()?;
     assert_eq!(rt; draft.set_lengths(&mut rows, 1, 2_000_000, 5), Ok(()));

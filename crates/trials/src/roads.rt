@@ -120,7 +120,7 @@ fn refusals_by_number_and_row(rt: HostRuntime) {
         (Refusal::Turn { row: 5 }, 5, 5),
         (Refusal::HandLength { row: 6 }, 6, 6),
         (Refusal::ShortMemory { row: 7 }, 7, 7),
-        (Refusal::NoSuchPlace { row: 8 }, 8, 8),
+        (Refusal::NoSuchRow { row: 8 }, 8, 8),
         (Refusal::NotACurve { row: 9 }, 9, 9),
         (Refusal::Full { row: 10 }, 10, 10),
         (Refusal::NoRows, 11, 0),

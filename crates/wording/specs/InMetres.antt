@@ -4,14 +4,14 @@ use Rattle.rows.specs.declared.end.End.{End}
 use Rattle.rows.specs.declared.end.End.TheVariants.{Entry, Exit}
 use Rattle.rows.specs.declared.row.Curve.{Curve}
 use Rattle.rows.specs.Ends.{end_word}
-use Rattle.radii.specs.declared.NextRadius.{NextRadius}
+use Rattle.figures.specs.declared.range.NextRadius.{NextRadius}
 use Rattle.units.specs.Units.{metres_text, gon_text}
 use Rattle.wording.specs.declared.neighbours.Neighbour.{Neighbour}
 use Rattle.wording.specs.declared.reason.Clothoid.{Clothoid}
 use Rattle.wording.specs.declared.reason.Disagreement.{Disagreement}
 use Rattle.wording.specs.declared.reason.Reason.{Reason}
 use Rattle.wording.specs.declared.reason.Reason.TheVariants.{Unadmitted, TooLong, Uncalled, Unequal, Disharmony, NoArc, TightRadius, Disagreeing, SmallTurn, ShortRun, LongRun, SlightTurn}
-use Rattle.wording.specs.Lengths.{longest_of, least_beside, longest_beside, longest_pair_of}
+use Rattle.figures.specs.Lengths.{longest_of, least_beside, longest_beside, longest_pair_of}
 
 abbrev pub clothoid_line : Clothoid → List ℕ
 clothoid_line clothoid = end_word clothoid.end ++ (codes " clothoid of " ++ (metres_text clothoid.length ++ codes " m"))

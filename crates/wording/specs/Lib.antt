@@ -1,5 +1,4 @@
 pub mod Words
-pub mod Lengths
 pub mod InMetres
 pub mod Beside
 pub mod Explained

@@ -4,7 +4,7 @@ use Rattle.rows.specs.declared.end.End.{End}
 use Rattle.rows.specs.declared.end.End.TheVariants.{Entry, Exit}
 use Rattle.rows.specs.declared.row.Curve.{Curve}
 use Rattle.rows.specs.Ends.{end_word}
-use Rattle.radii.specs.Words.{radius_words}
+use Rattle.figures.specs.Words.{radius_words}
 use Rattle.wording.specs.declared.neighbours.Neighbour.{Neighbour}
 use Rattle.wording.specs.declared.reason.Clothoid.{Clothoid}
 use Rattle.wording.specs.declared.reason.Disagreement.{Disagreement}

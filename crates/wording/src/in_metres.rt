@@ -4,10 +4,10 @@ ghost use Rattle.std.specs.Fmt.{WritesOnOk};
 ghost use Rattle.wording.specs.InMetres.{clothoid_line, over_line, range_line, between_line, sense_line, unadmitted_line, too_long_line, uncalled_line, unequal_line, disharmony_line, no_arc_line, tight_radius_line, disagreement_line, small_turn_line, short_run_line, long_run_line, slight_turn_line, reason_line};
 
 use crate::explained::Explained;
-use crate::lengths::{LengthRange, harmonious_entries, longest_length, longest_pair};
 use crate::neighbours::Neighbour;
 use crate::reason::{Clothoid, Disagreement, Reason};
-use radii::NextRadius;
+use figures::NextRadius;
+use figures::lengths::{LengthRange, harmonious_entries, longest_length, longest_pair};
 use rows::end::End;
 use rows::row::Curve;
 use std::fmt;

@@ -1,0 +1,6 @@
+pub mod Lengths
+pub mod Radii
+pub mod Ranges
+pub mod Runs
+pub mod Tests
+pub mod Words
