@@ -2,7 +2,7 @@
 use Rattle.std.specs.Prelude.{ℕ, List, [], ◌∷◌, codes, decimal, cond, nat_lt}
 use Rattle.plain.specs.declared.NewRow.TheVariants as new
 use Rattle.road.specs.declared.refusal.Refusal.{Refusal}
-use Rattle.road.specs.declared.refusal.Refusal.TheVariants.{NoSuchRoad, EdgeOrLanes, StraightLength, Radius, Turn, HandLength, NoSuchPlace}
+use Rattle.road.specs.declared.refusal.Refusal.TheVariants.{NoSuchRoad, EdgeOrLanes, StraightLength, Radius, Turn, HandLength, NoSuchRow}
 use Rattle.road.specs.Refusals.{number_of, row_of}
 use Rattle.road.specs.Words.{class_word, reason_of}
 use Rattle.commands.specs.declared.command.Command.{Command}
@@ -27,7 +27,7 @@ call_value_text (StraightLength row) (Add (new.Straight length) before) = one_va
 call_value_text (Radius row) (Add (new.Curve sense radius turn) before) = one_value radius
 call_value_text (Turn row) (Add (new.Curve sense radius turn) before) = one_value turn
 call_value_text (HandLength row) (Set n entry exit) = one_value (above_longest entry exit)
-call_value_text (NoSuchPlace row) call = one_value row
+call_value_text (NoSuchRow row) call = one_value row
 call_value_text refusal call = []
 
 -- The same of a command.

@@ -4,7 +4,7 @@ ghost use Rattle.std.specs.Fmt.{WritesOnOk};
 ghost use Rattle.answers.specs.Refused.{above_longest, call_value_text, refused_text, value_text};
 
 use commands::command::{Command, SheetCommand};
-use limits::limit::LONGEST;
+use limits::limit::LONGEST_CLOTHOID;
 use plain::NewRow;
 use road::refusal::Refusal;
 use std::fmt;
@@ -24,7 +24,7 @@ pub struct RefusedLine {
 fn above_longest(entry: u32, exit: u32) -> u32
     ensures { result ≡ above_longest entry exit }
 {
-    if entry > LONGEST { entry } else { exit }
+    if entry > LONGEST_CLOTHOID { entry } else { exit }
 }
 
 // Writes the value that was refused, where there is one.
@@ -93,7 +93,7 @@ fn write_value_of_call<W: fmt::Write>(
             let length = above_longest(entry, exit);
             write!(f, ", and is {length}")
         }
-        (Refusal::NoSuchPlace { row }, _) => write!(f, ", and is {row}"),
+        (Refusal::NoSuchRow { row }, _) => write!(f, ", and is {row}"),
         _ => Ok(()),
     }
 }

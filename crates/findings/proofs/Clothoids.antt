@@ -9,12 +9,10 @@ use Rattle.rows.proofs.Leasts.{is_least_in}
 use Rattle.rows.specs.declared.row.Curve.{Curve}
 use Rattle.rows.specs.declared.row.Row.TheVariants as row
 use Rattle.rows.specs.Curves.{place_of, Calling}
+use Rattle.figures.proofs.Tests.{decides_leb}
 use Rattle.findings.specs.declared.walk.Clothoids.TheVariants.{Called}
 use Rattle.findings.specs.Rules.{Admission}
 use Rattle.findings.specs.Walk.{calls, clothoids_of}
-
-pub decides_leb : (a b : ℕ) → Decides (leb a b) (a ≤ b)
-decides_leb a b = (leb-true a b, le-leb a b)
 
 pub decides_calls : (road : Road) (c : Curve) → Decides (calls road c) (Calling road c)
 decides_calls road c =

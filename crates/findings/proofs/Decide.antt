@@ -16,29 +16,24 @@ use Rattle.rows.specs.Leasts.{least_in}
 use Rattle.findings.specs.declared.kind.Kind.{Kind}
 use Rattle.findings.specs.declared.kind.Kind.TheVariants.{UnadmittedEntry, UnadmittedExit, LongEntry, LongExit, UncalledEntry, UncalledExit, Unequal, Disharmony, NoArc, TightRadius, NextRadius, ReturnRadius, SmallTurn, ShortRun, LongRun, SlightTurn}
 use Rattle.findings.specs.declared.walk.Clothoids.TheVariants.{Uncalled, Called}
-use Rattle.findings.specs.declared.walk.Stretch.{Stretch}
+use Rattle.findings.specs.declared.walk.Flank.{Flank}
 use Rattle.findings.specs.Around.{total, EndWith, BeginWith, RunBegins, RunGoesOn}
-use Rattle.findings.specs.Rules.{Admission, Harmonious, Follows, shortest_run_lem, longest_run_lem, BrokenByCurve, BrokenByStraight, Broken}
-use Rattle.findings.specs.Walk.{nothing, reached, begins, calls, harmonious, discordant, disharmonious, strays, short_between, context_of, curve_breaks_lem, straight_breaks_lem, breaks}
+use Rattle.findings.specs.Rules.{Admission, BrokenByCurve, BrokenByStraight, Broken}
+use Rattle.findings.specs.Walk.{nothing, reached, begins, calls, discordant, disharmonious, strays, short_between, context_of, curve_breaks_lem, straight_breaks_lem, breaks}
 use Rattle.findings.proofs.Around.{walked, behind_has, behind_is, just_before, run_begins, begins_has, ahead_has, ahead_is, run_has, run_is}
-use Rattle.findings.proofs.Clothoids.{decides_leb, decides_calls}
-use Rattle.findings.proofs.Followed.{decides_follows}
+use Rattle.figures.specs.Lengths.{Harmonious}
+use Rattle.figures.specs.Radii.{Follows}
+use Rattle.figures.specs.Runs.{shortest_run_lem, longest_run_lem}
+use Rattle.figures.proofs.Followed.{decides_follows}
+use Rattle.figures.proofs.Tests.{decides_harmonious, decides_arcless, decides_cramped}
+use Rattle.findings.proofs.Clothoids.{decides_calls}
 use Rattle.findings.proofs.Lengths.{decides_unadmitted, decides_too_long, decides_uncalled}
 
 decides_never : Decides false ⊥
 decides_never = (λ e. absurd (false≢true e), λ h. absurd h)
 
-decides_not_above : (a b : ℕ) → Decides (leb a b) (b < a → ⊥)
-decides_not_above a b = (λ e h. let le = leb-true a b e in omega arith, λ h. le-leb a b (omega (arith, h)))
-
-decides_not_up_to : (a b : ℕ) → Decides (ltb b a) (a ≤ b → ⊥)
-decides_not_up_to a b = (λ e h. let lt = ltb-true b a e in omega arith, λ h. lt-ltb b a (omega (arith, h)))
-
 decides_true : (b : Bool) → Decides b (b ≡ true)
 decides_true b = (λ e. e, λ e. e)
-
-decides_harmonious : (exit entry : ℕ) → Decides (harmonious exit entry) (Harmonious exit entry)
-decides_harmonious exit entry = Decides-and _ _ (decides_leb (2 * entry) (3 * exit)) (decides_leb (2 * exit) (3 * entry))
 
 -- A test on the nearest curve and the run up to it, of what lies behind a place or ahead of it.
 module _ (test : Option Curve → ℕ → Bool) (Fact : Curve → ℕ → Type 0) (at_none : (n : ℕ) → test None n ≡ false)
@@ -99,12 +94,12 @@ decides_begins before = (
 )
 
 -- What a row that looks ahead sees there.
-seen_ahead : (b : Bool) (test : Stretch → Bool) (x y : Stretch) → (b && test (cond b x y)) ≡ (b && test x)
+seen_ahead : (b : Bool) (test : Flank → Bool) (x y : Flank) → (b && test (cond b x y)) ≡ (b && test x)
 seen_ahead true test x y = refl
 seen_ahead false test x y = refl
 
 -- A test that a curve which calls for clothoids has to pass.
-if_called : (road : Road) (b : Bool) (least : Option ℕ) (behind : Stretch) (c : Curve)
+if_called : (road : Road) (b : Bool) (least : Option ℕ) (behind : Flank) (c : Curve)
     → disharmonious road (cond b (Called least) Uncalled) behind c ≡ (b && (begins behind && discordant road behind.curve c))
 if_called road true least behind c = refl
 if_called road false least behind c = refl
@@ -147,15 +142,14 @@ module _ (road : Road) (admission : Admission) (lawful : (place : Place) → UpT
     curve_decides UncalledExit = decides_uncalled _ c.exit test_here (calls road c) (least_in test_here) (decides_calls road c)
     curve_decides Unequal = Decides-and _ _ (decides_true road.symmetric) (Decides-not _ (Decides-eqb c.entry c.exit))
     curve_decides Disharmony = disharmony_decides
-    curve_decides NoArc = decides_not_above (c.turn * c.radius) (318_300 * (c.entry + c.exit))
+    curve_decides NoArc = decides_arcless c
     curve_decides TightRadius = Decides-ltb c.radius road.least_radius
     curve_decides NextRadius =
         behind_decides (λ o n. strays road o n c) (λ b n. Follows road n b.radius c.radius → ⊥) (λ n. refl) strays_from before
     curve_decides ReturnRadius =
         Decides-and _ _ (decides_true road.both_senses)
         (ahead_decides (λ o n. strays road o n c) (λ d n. Follows road n d.radius c.radius → ⊥) (λ n. refl) strays_from after)
-    curve_decides SmallTurn =
-        Decides-and _ _ (Decides-ltb c.turn 60_000) (decides_not_up_to (1_591_500 * (130_000 - c.turn)) (c.radius * c.turn))
+    curve_decides SmallTurn = decides_cramped c
     curve_decides ShortRun = decides_never
     curve_decides LongRun = decides_never
     curve_decides SlightTurn = Decides-ltb c.turn 20_000

@@ -11,7 +11,7 @@ use Rattle.findings.specs.declared.finding.Side.TheVariants.{Whole, Entry, Exit}
 use Rattle.findings.specs.declared.kind.Kind.{Kind}
 use Rattle.findings.specs.declared.kind.Kind.TheVariants.{UnadmittedEntry, UnadmittedExit, LongEntry, LongExit, UncalledEntry, UncalledExit, Unequal, Disharmony, NoArc, TightRadius, NextRadius, ReturnRadius, SmallTurn, ShortRun, LongRun, SlightTurn}
 use Rattle.findings.specs.declared.walk.Context.{Context}
-use Rattle.findings.specs.declared.walk.Stretch.{Stretch}
+use Rattle.findings.specs.declared.walk.Flank.{Flank}
 use Rattle.findings.specs.Rules.{Admission}
 use Rattle.findings.specs.Findings.{rule_number, side_number, rule_of, side_of, finding_of, Sooner, Among, Ordered, FindingsOf}
 use Rattle.findings.specs.Walk.{nothing, past, context_of, breaks, kinds, clothoid_kinds, other_kinds, given, gathered, listed}
@@ -135,7 +135,7 @@ module _ (road : Road) where
 
 -- The findings of all rows.
 module _ (road : Road) (admission : Admission) where
-  record Seen (place : ℕ) (behind : Stretch) (rows : List Row) (f : Finding) : Type 0 where
+  record Seen (place : ℕ) (behind : Flank) (rows : List Row) (f : Finding) : Type 0 where
     before : List Row
     this : Row
     after : List Row
@@ -144,7 +144,7 @@ module _ (road : Road) (admission : Admission) where
     is : f ≡ finding_of (place + length before) kind
     broken : breaks road kind (context_of road admission (walked behind before) this after) ≡ true
 
-  among_listed : (place : ℕ) (behind : Stretch) (rows : List Row) (f : Finding) → Among f (listed road admission place behind rows) → Seen place behind rows f
+  among_listed : (place : ℕ) (behind : Flank) (rows : List Row) (f : Finding) → Among f (listed road admission place behind rows) → Seen place behind rows f
   among_listed place behind [] f m = absurd m
   among_listed place behind (r ∷ rows) f m =
       elim (among_parts f (gathered road place (context_of road admission behind r rows) kinds) (listed road admission (place + 1) (past behind r) rows) m) [
@@ -166,7 +166,7 @@ module _ (road : Road) (admission : Admission) where
             }
       ]
 
-  listed_among : (place : ℕ) (behind : Stretch) (before : List Row) (this : Row) (after : List Row) (k : Kind)
+  listed_among : (place : ℕ) (behind : Flank) (before : List Row) (this : Row) (after : List Row) (k : Kind)
       → breaks road k (context_of road admission (walked behind before) this after) ≡ true
       → Among (finding_of (place + length before) k) (listed road admission place behind (before ++ this ∷ after))
   listed_among place behind [] this after k e =
@@ -180,7 +180,7 @@ module _ (road : Road) (admission : Admission) where
       (among_right (finding_of (place + 1 + length before) k) (gathered road place (context_of road admission behind r (before ++ this ∷ after)) kinds)
       (listed road admission (place + 1) (past behind r) (before ++ this ∷ after)) (listed_among (place + 1) (past behind r) before this after k e))
 
-  listed_ordered : (place : ℕ) (behind : Stretch) (rows : List Row) → Ordered (listed road admission place behind rows)
+  listed_ordered : (place : ℕ) (behind : Flank) (rows : List Row) → Ordered (listed road admission place behind rows)
   listed_ordered place behind [] = tt
   listed_ordered place behind (r ∷ rows) =
       ordered_append (gathered road place (context_of road admission behind r rows) kinds) (listed road admission (place + 1) (past behind r) rows)

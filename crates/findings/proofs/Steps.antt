@@ -7,7 +7,7 @@ use Rattle.rows.specs.declared.row.Row.{Row}
 use Rattle.rows.specs.Reading.{row_of}
 use Rattle.road.specs.declared.road.Road.{Road}
 use Rattle.findings.specs.declared.walk.Context.{Context}
-use Rattle.findings.specs.declared.walk.Stretch.{Stretch}
+use Rattle.findings.specs.declared.walk.Flank.{Flank}
 use Rattle.findings.specs.declared.walk.Walk.{Walk}
 use Rattle.findings.specs.Alignments.{left}
 use Rattle.findings.specs.Rules.{Admission}
@@ -73,11 +73,11 @@ module _ (road : Road) where
 
 module _ (road : Road) (admission : Admission) where
   -- each row has its context
-  contexts_few : (behind : Stretch) (rows : List Row) → length (contexts road admission behind rows) ≡ length rows
+  contexts_few : (behind : Flank) (rows : List Row) → length (contexts road admission behind rows) ≡ length rows
   contexts_few behind [] = refl
   contexts_few behind (r ∷ rows) = let e = contexts_few (past behind r) rows in omega arith
 
-  pub listed_few : (place : ℕ) (behind : Stretch) (rows : List Row) → length (listed road admission place behind rows) ≤ 16 * length rows
+  pub listed_few : (place : ℕ) (behind : Flank) (rows : List Row) → length (listed road admission place behind rows) ≤ 16 * length rows
   listed_few place behind [] = omega arith
   listed_few place behind (r ∷ rows) =
       let a = sixteen road place (context_of road admission behind r rows) in

@@ -2,8 +2,8 @@
 use Rattle.std.specs.Prelude.{◌≡◌, ℕ, ◌<◌, ◌≤◌, ◌⊎◌, List, [], ◌∷◌, ◌++◌, length, drop, Ok, Err, Result}
 use Rattle.road.specs.declared.road.Road.{Road}
 use Rattle.rows.specs.declared.row.Row.{Row}
-use Rattle.findings.specs.declared.checking.TooMany.{TooMany}
-use Rattle.findings.specs.declared.checking.TooMany.TheVariants.{Rows, Findings}
+use Rattle.findings.specs.declared.TooMany.{TooMany}
+use Rattle.findings.specs.declared.TooMany.TheVariants.{Rows, Findings}
 use Rattle.findings.specs.declared.finding.Finding.{Finding}
 use Rattle.findings.specs.declared.finding.Rule.{Rule}
 use Rattle.findings.specs.declared.finding.Rule.TheVariants as rule

@@ -1,6 +1,6 @@
--- The twelve rules: when each kind of finding is given for a row, by the rows before it and the rows after it.
+-- The twelve rules: when each kind of finding is given for a row, by the rows before it and the rows after it. Their figures are those of `figures`.
 -- Lengths and radii in mm, turns in ten-thousandths of a gon, speeds in km/h.
-use Rattle.std.specs.Prelude.{◌≡◌, ℕ, ◌+◌, ◌-◌, ◌*◌, ◌<◌, ◌≤◌, Bool, true, List, [], ◌≢◌}
+use Rattle.std.specs.Prelude.{◌≡◌, ℕ, ◌+◌, ◌<◌, Bool, true, List, [], ◌≢◌}
 use Rattle.road.specs.declared.road.Road.{Road}
 use Rattle.limits.specs.declared.place.Place.{Place}
 use Rattle.limits.specs.Admission.{In}
@@ -8,10 +8,11 @@ use Rattle.limits.specs.Least.{Smallest}
 use Rattle.rows.specs.declared.row.Curve.{Curve}
 use Rattle.rows.specs.declared.row.Row.{Row}
 use Rattle.rows.specs.declared.row.Row.TheVariants as row
-use Rattle.rows.specs.declared.row.Sense.{Sense}
-use Rattle.rows.specs.declared.row.Sense.TheVariants.{Left, Right}
 use Rattle.rows.specs.declared.row.Straight.{Straight}
 use Rattle.rows.specs.Curves.{place_of, Calling}
+use Rattle.figures.specs.Lengths.{WithinLongest, Harmonious, LeavesArc}
+use Rattle.figures.specs.Radii.{Follows, Cramped}
+use Rattle.figures.specs.Runs.{shortest_run_lem, longest_run_lem}
 use Rattle.findings.specs.declared.kind.Kind.{Kind}
 use Rattle.findings.specs.declared.kind.Kind.TheVariants.{UnadmittedEntry, UnadmittedExit, LongEntry, LongExit, UncalledEntry, UncalledExit, Unequal, Disharmony, NoArc, TightRadius, NextRadius, ReturnRadius, SmallTurn, ShortRun, LongRun, SlightTurn}
 use Rattle.findings.specs.Around.{total, EndWith, BeginWith, RunBegins, RunGoesOn}
@@ -20,37 +21,6 @@ use Rattle.findings.specs.Around.{total, EndWith, BeginWith, RunBegins, RunGoesO
 abbrev pub Admission : Type 0
 Admission = Place → ℕ → Bool
 
--- An exit and the next entry in harmony: neither is above one and a half times the other.
-abbrev pub Harmonious : (exit entry : ℕ) → Type 0
-Harmonious exit entry = (2 * entry ≤ 3 * exit) × (2 * exit ≤ 3 * entry)
-
--- An arc is left between the clothoids.
-abbrev pub LeavesArc : Curve → Type 0
-LeavesArc c = 318_300 * (c.entry + c.exit) < c.turn * c.radius
-
--- Consecutive radii r, then next, by Table 4.7, which says nothing of radii below 50 m.
-pub record Tabled (r next : ℕ) : Type 0 where
-  pub tight : 50_000 ≤ r → r ≤ 450_000 → (50 * r + 600_600 ≤ 77 * next) × (80 * next + 1_152_000 < 127 * r)
-  pub middle : 450_000 < r → r ≤ 700_000 → (40 * r + 22_504_500 ≤ 135 * next) × (25 * next + 32_000_000 < 110 * r)
-  pub wide : 700_000 < r → r ≤ 1_800_000 → 40 * r + 22_504_500 ≤ 135 * next
-  pub widest : 1_800_000 < r → 700_000 ≤ next
-
--- The radius r may be followed by next, over a run of that length (0 where there is none).
-pub record Follows (road : Road) (run r next : ℕ) : Type 0 where
-  pub near : run ≤ road.limited_run → Tabled r next
-  pub far : road.limited_run < run → road.radius_after_run ≤ next
-
--- The shortest run between two curves, by their senses.
-abbrev pub shortest_run_lem : Sense → Sense → (speed : ℕ) → ℕ
-shortest_run_lem Left Left speed = 2_780 * speed
-shortest_run_lem Left Right speed = 1_390 * speed
-shortest_run_lem Right Left speed = 1_390 * speed
-shortest_run_lem Right Right speed = 2_780 * speed
-
--- The longest run.
-abbrev pub longest_run_lem : (speed : ℕ) → ℕ
-longest_run_lem speed = 16_700 * speed
-
 module _ (road : Road) (admission : Admission) where
   -- A length is admitted for the clothoids of the curve.
   abbrev pub Admitted : Curve → ℕ → Type 0
@@ -58,7 +28,7 @@ module _ (road : Road) (admission : Admission) where
 
   -- A length is above one and a half times the least that is admitted; where nothing is admitted, no length is.
   abbrev pub TooLong : Curve → ℕ → Type 0
-  TooLong c length = (least : ℕ) × Smallest (Admitted c) least × (2 * length ≤ 3 * least → ⊥)
+  TooLong c length = (least : ℕ) × Smallest (Admitted c) least × (WithinLongest least length → ⊥)
 
   -- What is found at a curve, by the rows before it and after it. The two kinds of the rules on runs are never found there.
   abbrev pub BrokenByCurve : Kind → List Row → Curve → List Row → Type 0
@@ -86,7 +56,7 @@ module _ (road : Road) (admission : Admission) where
   BrokenByCurve ReturnRadius before c after =
       (road.both_senses ≡ true) × ((d : Curve) × (ss : List Straight) × BeginWith after ss d × (Follows road (total ss) d.radius c.radius → ⊥))
   -- 9: a curve of a small turn is wide enough
-  BrokenByCurve SmallTurn before c after = (c.turn < 60_000) × (1_591_500 * (130_000 - c.turn) ≤ c.radius * c.turn → ⊥)
+  BrokenByCurve SmallTurn before c after = Cramped c
   BrokenByCurve ShortRun before c after = ⊥
   BrokenByCurve LongRun before c after = ⊥
   -- 12: the turn is at least 2 gon

@@ -8,37 +8,39 @@ use Rattle.rows.specs.declared.row.Row.TheVariants as row
 use Rattle.rows.specs.declared.row.Straight.{Straight}
 use Rattle.rows.specs.Curves.{place_of}
 use Rattle.rows.specs.Leasts.{least_in}
+use Rattle.figures.specs.Runs.{shortest_run_lem, longest_run_lem}
+use Rattle.figures.specs.Tests.{exceeds, harmonious, arcless, follows, cramped}
 use Rattle.findings.specs.declared.finding.Finding.{Finding}
 use Rattle.findings.specs.declared.kind.Kind.{Kind}
 use Rattle.findings.specs.declared.kind.Kind.TheVariants.{UnadmittedEntry, UnadmittedExit, LongEntry, LongExit, UncalledEntry, UncalledExit, Unequal, Disharmony, NoArc, TightRadius, NextRadius, ReturnRadius, SmallTurn, ShortRun, LongRun, SlightTurn}
 use Rattle.findings.specs.declared.walk.Clothoids.{Clothoids}
 use Rattle.findings.specs.declared.walk.Clothoids.TheVariants.{Uncalled, Called}
 use Rattle.findings.specs.declared.walk.Context.{Context}
-use Rattle.findings.specs.declared.walk.Stretch.{Stretch}
-use Rattle.findings.specs.Rules.{Admission, shortest_run_lem, longest_run_lem}
+use Rattle.findings.specs.declared.walk.Flank.{Flank}
+use Rattle.findings.specs.Rules.{Admission}
 use Rattle.findings.specs.Findings.{finding_of}
 
 -- What lies behind the first row.
-abbrev pub nothing : Stretch
+abbrev pub nothing : Flank
 nothing = record { curve = None; run = 0 }
 
 -- What lies behind, one row on.
-abbrev pub past : Stretch → Row → Stretch
+abbrev pub past : Flank → Row → Flank
 past behind (row.Straight s) = record { curve = behind.curve; run = behind.run + s.length }
 past behind (row.Curve c) = record { curve = Some c; run = 0 }
 
 -- What lies ahead of a place, after straights of that length.
-abbrev pub reached : ℕ → List Row → Stretch
+abbrev pub reached : ℕ → List Row → Flank
 reached run [] = record { curve = None; run = run }
 reached run (row.Straight s ∷ rows) = reached (run + s.length) rows
 reached run (row.Curve c ∷ rows) = record { curve = Some c; run = run }
 
 -- Whether a run may begin after what lies behind: each straight has a length, so there is none where they sum to 0.
-abbrev pub begins : Stretch → Bool
+abbrev pub begins : Flank → Bool
 begins behind = behind.run == 0
 
 -- Only a curve and the first straight of a run look ahead.
-abbrev pub looks : Stretch → Row → Bool
+abbrev pub looks : Flank → Row → Bool
 looks behind (row.Straight s) = begins behind
 looks behind (row.Curve c) = true
 
@@ -52,7 +54,7 @@ clothoids_of road admission (row.Straight s) = Uncalled
 clothoids_of road admission (row.Curve c) = cond (calls road c) (Called (least_in (admission (place_of road c)))) Uncalled
 
 -- A row with what lies behind it and ahead of it.
-abbrev pub context_of : Road → Admission → Stretch → Row → List Row → Context
+abbrev pub context_of : Road → Admission → Flank → Row → List Row → Context
 context_of road admission behind r after =
     record { row = r; clothoids = clothoids_of road admission r; behind = behind; ahead = cond (looks behind r) (reached 0 after) nothing }
 
@@ -65,7 +67,7 @@ unadmitted (Called (Some least)) length = nat_lt length least
 abbrev pub is_too_long : Clothoids → ℕ → Bool
 is_too_long Uncalled length = false
 is_too_long (Called None) length = false
-is_too_long (Called (Some least)) length = nat_lt (3 * least) (2 * length)
+is_too_long (Called (Some least)) length = exceeds least length
 
 abbrev pub uncalled_for : Clothoids → ℕ → Bool
 uncalled_for Uncalled length = not (length == 0)
@@ -74,37 +76,17 @@ uncalled_for (Called least) length = false
 abbrev pub unequal : Road → Curve → Bool
 unequal road c = road.symmetric && not (c.entry == c.exit)
 
-abbrev pub harmonious : (exit entry : ℕ) → Bool
-harmonious exit entry = nat_le (2 * entry) (3 * exit) && nat_le (2 * exit) (3 * entry)
-
 abbrev pub discordant : Road → Option Curve → Curve → Bool
 discordant road None c = false
 discordant road (Some b) c = calls road b && not (harmonious b.exit c.entry)
 
-abbrev pub disharmonious : Road → Clothoids → Stretch → Curve → Bool
+abbrev pub disharmonious : Road → Clothoids → Flank → Curve → Bool
 disharmonious road Uncalled behind c = false
 disharmonious road (Called least) behind c = begins behind && discordant road behind.curve c
-
-abbrev pub arcless : Curve → Bool
-arcless c = nat_le (c.turn * c.radius) (318_300 * (c.entry + c.exit))
-
-abbrev pub tabled : (r next : ℕ) → Bool
-tabled r next =
-    cond (nat_lt r 50_000) true
-    (cond (nat_le r 450_000) (nat_le (50 * r + 600_600) (77 * next) && nat_lt (80 * next + 1_152_000) (127 * r))
-    (cond (nat_le r 700_000) (nat_le (40 * r + 22_504_500) (135 * next) && nat_lt (25 * next + 32_000_000) (110 * r))
-    (cond (nat_le r 1_800_000) (nat_le (40 * r + 22_504_500) (135 * next)) (nat_le 700_000 next))))
-
-abbrev pub follows : Road → (run r next : ℕ) → Bool
-follows road run r next =
-    cond (nat_le run road.limited_run) (tabled r next) (nat_le road.radius_after_run next)
 
 abbrev pub strays : Road → Option Curve → ℕ → Curve → Bool
 strays road None run c = false
 strays road (Some b) run c = not (follows road run b.radius c.radius)
-
-abbrev pub cramped : Curve → Bool
-cramped c = nat_lt c.turn 60_000 && nat_lt (c.radius * c.turn) (1_591_500 * (130_000 - c.turn))
 
 abbrev pub short_between : Road → Option Curve → ℕ → Option Curve → Bool
 short_between road None run next = false
@@ -199,7 +181,7 @@ abbrev pub counted : Road → Context → List Kind → ℕ
 counted road at ks = count_by (λ k. breaks road k at) ks
 
 -- The rows in order, each in its context, after what lies behind them.
-abbrev pub contexts : Road → Admission → Stretch → List Row → List Context
+abbrev pub contexts : Road → Admission → Flank → List Row → List Context
 contexts road admission behind [] = []
 contexts road admission behind (r ∷ rows) = context_of road admission behind r rows ∷ contexts road admission (past behind r) rows
 
@@ -209,5 +191,5 @@ gathered_from road place [] = []
 gathered_from road place (at ∷ ats) = gathered road place at kinds ++ gathered_from road (place + 1) ats
 
 -- The findings of the rows from a place on, after what lies behind it.
-abbrev pub listed : Road → Admission → ℕ → Stretch → List Row → List Finding
+abbrev pub listed : Road → Admission → ℕ → Flank → List Row → List Finding
 listed road admission place behind rows = gathered_from road place (contexts road admission behind rows)

@@ -4,7 +4,7 @@ ghost use Rattle.std.specs.Prelude.{◌≡◌, ◌≤◌, length, nat_le};
 use crate::finding::Finding;
 use crate::kind::Kind;
 use crate::kinds::KINDS;
-use crate::walk::{Context, Stretch, Walk};
+use crate::walk::{Context, Flank, Walk};
 use limits::limit::Limit;
 use road::road::Road;
 use roll::{Roll, RollRefusal};
@@ -125,7 +125,7 @@ impl<'a, L: Limit> Alignment<'a, L> {
             road: self.road,
             limit: self.limit,
             rows: self.rows,
-            behind: Stretch::NOTHING,
+            behind: Flank::NOTHING,
         }
     }
 

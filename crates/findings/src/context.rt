@@ -4,25 +4,25 @@ ghost use Rattle.rows.specs.Reading.{row_of};
 ghost use Rattle.findings.specs.Walk.{nothing, past, reached, begins, clothoids_of, context_of};
 ghost use Rattle.rows.specs.declared.row.Row.TheVariants as row;
 
-use crate::walk::{Clothoids, Context, Stretch};
+use crate::walk::{Clothoids, Context, Flank};
 use limits::limit::Limit;
 use road::road::Road;
 use rows::record::RowRecord;
 use rows::row::{Curve, Row};
 
-impl Stretch {
+impl Flank {
     // What lies behind, one row on.
-    pub(crate) fn past(self, row: Row) -> Stretch
+    pub(crate) fn past(self, row: Row) -> Flank
         requires { self.run ≤ 80_000_000_000 }
         ensures value { result ≡ past self row }
         ensures bound { result.run ≤ self.run + 20_000_000 }
     {
         match row {
-            Row::Straight(straight) => Stretch {
+            Row::Straight(straight) => Flank {
                 curve: self.curve,
                 run: self.run + straight.length as u64,
             },
-            Row::Curve(curve) => Stretch {
+            Row::Curve(curve) => Flank {
                 curve: Some(curve),
                 run: 0,
             },
@@ -31,7 +31,7 @@ impl Stretch {
 
     // What lies ahead, where these rows come.
     #[inline(never)]
-    fn ahead(rows: &[RowRecord]) -> Stretch
+    fn ahead(rows: &[RowRecord]) -> Flank
         requires { length rows.now ≤ 4_000 }
         ensures { result ≡ reached 0 (map row_of rows.now) }
     {
@@ -40,25 +40,25 @@ impl Stretch {
             match record.read() {
                 Row::Straight(straight) => run += straight.length as u64,
                 Row::Curve(curve) => {
-                    return Stretch {
+                    return Flank {
                         curve: Some(curve),
                         run,
                     };
                 }
             }
         }
-        Stretch { curve: None, run }
+        Flank { curve: None, run }
     }
 
     // What lies ahead of a straight. Only the first straight of a run looks ahead, and the curve before it, so a run is read twice at most.
-    fn ahead_of_straight(behind: Stretch, rows: &[RowRecord]) -> Stretch
+    fn ahead_of_straight(behind: Flank, rows: &[RowRecord]) -> Flank
         requires { length rows.now ≤ 4_000 }
         ensures { result ≡ (if begins behind then reached 0 (map row_of rows.now) else nothing) }
     {
         if behind.begins_run() {
-            Stretch::ahead(rows)
+            Flank::ahead(rows)
         } else {
-            Stretch::NOTHING
+            Flank::NOTHING
         }
     }
 }
@@ -83,7 +83,7 @@ impl Context {
         row: Row,
         road: &Road,
         limit: &L,
-        behind: Stretch,
+        behind: Flank,
         after: &[RowRecord],
     ) -> Context
         requires { length after.now ≤ 4_000 }
@@ -94,13 +94,13 @@ impl Context {
                 row,
                 clothoids: Clothoids::Uncalled,
                 behind,
-                ahead: Stretch::ahead_of_straight(behind, after),
+                ahead: Flank::ahead_of_straight(behind, after),
             },
             Row::Curve(curve) => Context {
                 row,
                 clothoids: Clothoids::of(curve, road, limit),
                 behind,
-                ahead: Stretch::ahead(after),
+                ahead: Flank::ahead(after),
             },
         }
     }

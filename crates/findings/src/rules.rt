@@ -1,12 +1,11 @@
 // The tests of the rules.
 ghost use Rattle.std.specs.Prelude.{◌≡◌, nat_lt};
-ghost use Rattle.findings.specs.Rules.{longest_run_lem};
-ghost use Rattle.findings.specs.Walk.{unadmitted, is_too_long, uncalled_for, unequal, harmonious, discordant, disharmonious, arcless, strays, cramped, short_between, begins, curve_breaks_lem, straight_breaks_lem, breaks};
+ghost use Rattle.figures.specs.Runs.{longest_run_lem};
+ghost use Rattle.findings.specs.Walk.{unadmitted, is_too_long, uncalled_for, unequal, discordant, disharmonious, strays, short_between, begins, curve_breaks_lem, straight_breaks_lem, breaks};
 
-use crate::figures::{longest_run, shortest_run};
 use crate::kind::Kind;
-use crate::radii::follows_radius;
-use crate::walk::{Clothoids, Context, Stretch};
+use crate::walk::{Clothoids, Context, Flank};
+use figures::{LEAST_TURN, lengths, radii, runs};
 use road::road::Road;
 use rows::row::{Curve, Row, Straight};
 
@@ -26,7 +25,7 @@ fn is_too_long(clothoids: Clothoids, length: u32) -> bool
     ensures { result ≡ is_too_long clothoids length }
 {
     match clothoids {
-        Clothoids::Called(Some(least)) => 3 * (least as u64) < 2 * (length as u64),
+        Clothoids::Called(Some(least)) => lengths::is_too_long(least, length),
         _ => false,
     }
 }
@@ -48,23 +47,15 @@ fn is_unequal(road: &Road, curve: Curve) -> bool
     road.symmetric && curve.entry != curve.exit
 }
 
-fn are_harmonious(exit: u32, entry: u32) -> bool
-    ensures { result ≡ harmonious exit entry }
-{
-    let exit = exit as u64;
-    let entry = entry as u64;
-    2 * entry <= 3 * exit && 2 * exit <= 3 * entry
-}
-
 fn is_discordant(road: &Road, before: Option<Curve>, curve: Curve) -> bool
     ensures { result ≡ discordant road.now before curve }
 {
     before.is_some_and(|one| one.calls_for_clothoids(road)
-        && !are_harmonious(one.exit, curve.entry))
+        && !lengths::are_harmonious(one.exit, curve.entry))
 }
 
 // Rule 5, against the curve just before.
-fn lacks_harmony(road: &Road, clothoids: Clothoids, behind: Stretch, curve: Curve) -> bool
+fn lacks_harmony(road: &Road, clothoids: Clothoids, behind: Flank, curve: Curve) -> bool
     ensures { result ≡ disharmonious road.now clothoids behind curve }
 {
     match clothoids {
@@ -73,27 +64,16 @@ fn lacks_harmony(road: &Road, clothoids: Clothoids, behind: Stretch, curve: Curv
     }
 }
 
-// Rule 6: turn times radius against 318,300 times the lengths.
-fn leaves_no_arc(curve: Curve) -> bool
-    ensures { result ≡ arcless curve }
-{
-    let clothoids = curve.entry as u64 + curve.exit as u64;
-    curve.turn as u64 * curve.radius as u64 <= 318_300 * clothoids
-}
-
 // Rule 8, against the radius of another curve beyond a run.
-fn radius_strays(road: &Road, beyond: Stretch, curve: Curve) -> bool
+fn radius_strays(road: &Road, beyond: Flank, curve: Curve) -> bool
     ensures { result ≡ strays road.now beyond.curve beyond.run curve }
 {
-    beyond.curve.is_some_and(|other| !follows_radius(road, beyond.run, other.radius, curve.radius))
-}
-
-// Rule 9.
-fn is_cramped(curve: Curve) -> bool
-    ensures { result ≡ cramped curve }
-{
-    curve.turn < 60_000
-        && (curve.radius as u64) * (curve.turn as u64) < 1_591_500 * (130_000 - curve.turn as u64)
+    beyond.curve.is_some_and(|other| !radii::follows_radius(
+        road,
+        beyond.run,
+        other.radius,
+        curve.radius,
+    ))
 }
 
 // Rule 10, for a run between two curves.
@@ -101,17 +81,17 @@ fn run_is_short(road: &Road, before: Option<Curve>, run: u128, after: Option<Cur
     ensures { result ≡ short_between road.now before run after }
 {
     before.zip(after).is_some_and(|(one, other)| run
-        < shortest_run(road, one.sense, other.sense) as u128)
+        < runs::shortest_run(road, one.sense, other.sense) as u128)
 }
 
 // Rule 11.
 fn run_is_long(road: &Road, run: u128) -> bool
     ensures { result ≡ nat_lt (longest_run_lem road.now.speed) run }
 {
-    (longest_run(road) as u128) < run
+    (runs::longest_run(road) as u128) < run
 }
 
-impl Stretch {
+impl Flank {
     // Whether a run may begin after what lies behind. Each straight has a length, so there is none where they sum to 0.
     pub(crate) fn begins_run(&self) -> bool
         ensures { result ≡ begins self.now }
@@ -136,12 +116,12 @@ impl Context {
             Kind::UncalledExit => is_uncalled_for(self.clothoids, curve.exit),
             Kind::Unequal => is_unequal(road, curve),
             Kind::Disharmony => lacks_harmony(road, self.clothoids, self.behind, curve),
-            Kind::NoArc => leaves_no_arc(curve),
+            Kind::NoArc => lengths::leaves_no_arc(curve),
             Kind::TightRadius => curve.radius < road.least_radius,
             Kind::NextRadius => radius_strays(road, self.behind, curve),
             Kind::ReturnRadius => road.both_senses && radius_strays(road, self.ahead, curve),
-            Kind::SmallTurn => is_cramped(curve),
-            Kind::SlightTurn => curve.turn < 20_000,
+            Kind::SmallTurn => radii::is_cramped(curve),
+            Kind::SlightTurn => curve.turn < LEAST_TURN,
             Kind::ShortRun | Kind::LongRun => false,
         }
     }

@@ -9,13 +9,13 @@ use rows::row::{Curve, Row};
 // What lies on one side of a row: the nearest curve there, and the length of the run up to it, or up to the sheet's end, mm.
 // A run is neighbouring straights, and its length is their sum; 0 where there are none.
 #[derive(Clone, Copy)]
-pub struct Stretch {
+pub struct Flank {
     pub curve: Option<Curve>,
     pub run: u64,
 }
 
-impl Stretch {
-    pub const NOTHING: Stretch = Stretch {
+impl Flank {
+    pub const NOTHING: Flank = Flank {
         curve: None,
         run: 0,
     };
@@ -35,8 +35,8 @@ pub enum Clothoids {
 pub struct Context {
     pub row: Row,
     pub clothoids: Clothoids,
-    pub behind: Stretch,
-    pub ahead: Stretch,
+    pub behind: Flank,
+    pub ahead: Flank,
 }
 
 // A walk along the rows: those that are left, and what lies behind them.
@@ -45,7 +45,7 @@ pub(crate) struct Walk<'a, L> {
     pub(crate) road: &'a Road,
     pub(crate) limit: &'a L,
     pub(crate) rows: &'a [RowRecord],
-    pub(crate) behind: Stretch,
+    pub(crate) behind: Flank,
     ghost short: { behind.run + 20_000_000 * length rows.now ≤ 80_000_000_000 },
 }
 

@@ -1,21 +1,18 @@
 -- What each row asks of its clothoids, and the lengths that it has. Only private contracts cite this; proofs/ tie it to the rules.
-use Rattle.std.specs.Prelude.{ℕ, ◌-◌, ◌*◌, ◌/◌, cond}
+use Rattle.std.specs.Prelude.{cond}
 use Rattle.road.specs.declared.road.Road.{Road}
 use Rattle.rows.specs.declared.row.Curve.{Curve}
 use Rattle.rows.specs.declared.row.Row.{Row}
 use Rattle.rows.specs.declared.row.Row.TheVariants as row
 use Rattle.rows.specs.Curves.{place_of}
 use Rattle.rows.specs.Leasts.{least_in}
+use Rattle.figures.specs.Lengths.{longest_pair_of}
 use Rattle.findings.specs.Rules.{Admission}
 use Rattle.findings.specs.Walk.{calls}
 use Rattle.fitting.specs.declared.demand.Bounds.{Bounds}
 use Rattle.fitting.specs.declared.demand.Demand.{Demand}
 use Rattle.fitting.specs.declared.demand.Demand.TheVariants.{Free, Called}
 use Rattle.fitting.specs.declared.demand.Lengths.{Lengths}
-
--- The greatest sum of entry and exit that leaves an arc of a curve.
-abbrev pub room : Curve → ℕ
-room c = (c.turn * c.radius - 1) / 318_300
 
 -- The bounds of a calling curve: the least length that is admitted is that of both its places.
 abbrev pub bounds : Road → Admission → Curve → Bounds
@@ -24,7 +21,7 @@ bounds road admission c =
       entry = least_in (admission (place_of road c));
       exit = least_in (admission (place_of road c));
       even = road.symmetric;
-      room = room c;
+      room = longest_pair_of c;
     }
 
 abbrev pub demand : Road → Admission → Row → Demand

@@ -1,11 +1,13 @@
 // What the rows of a sheet ask of their clothoids.
 ghost use Rattle.std.specs.Prelude.{◌≡◌, ℕ, ◌≤◌, Some};
+ghost use Rattle.figures.specs.Lengths.{longest_pair_of};
 ghost use Rattle.findings.specs.Rules.{Admission};
-ghost use Rattle.fitting.specs.Demands.{room, bounds, demand, lengths};
+ghost use Rattle.fitting.specs.Demands.{bounds, demand, lengths};
 ghost use Rattle.fitting.specs.Passes.{first, least_asked, raised, only_of, body};
 ghost use Rattle.rows.specs.Reading.{row_of};
 
 use crate::reach::low;
+use figures::lengths::longest_pair;
 use limits::limit::Limit;
 use road::road::Road;
 use rows::record::RowRecord;
@@ -40,9 +42,9 @@ pub(crate) struct Lengths {
 
 // The greatest sum of entry and exit that leaves an arc.
 fn room_of(curve: Curve) -> u32
-    ensures { result ≡ room curve }
+    ensures { result ≡ longest_pair_of curve }
 {
-    ((curve.turn as u64 * curve.radius as u64 - 1) / 318_300) as u32
+    longest_pair(curve) as u32
 }
 
 impl Bounds {

@@ -1,4 +1,4 @@
-// The shortest clothoids that keep the rules of a sheet.
+//! The shortest clothoids that keep the rules of a sheet.
 #![tactic(auto)]
 
 ghost use Rattle.fitting.specs.Fits.{Fits};
@@ -13,7 +13,8 @@ use road::road::Road;
 use rows::range::MOST_ROWS;
 use rows::record::RowRecord;
 
-// Gives the curves the least lengths that keep the clothoid rules, or says which is the first row that has none.
+/// Gives the curves the least lengths, mm, that keep the clothoid rules, 1 to 6, under the limit. Where there are none, it writes nothing,
+/// and answers the first row up to which no lengths keep them.
 pub fn fit<L: Limit>(road: &Road, limit: &L, records: &mut [RowRecord]) -> Result<(), usize>
     ensures { Fits road.now (L.Limit.admitted limit.now) records.old records.new result }
 {

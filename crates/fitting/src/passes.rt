@@ -5,7 +5,8 @@ ghost use Rattle.fitting.specs.declared.reach.Reach.TheVariants as reach;
 ghost use Rattle.fitting.specs.Passes.{decide, started, pushed, body, demands, all_lengths, step, least_asked, Kept};
 
 use crate::demand::{Demand, Lengths, set_lengths};
-use crate::reach::{Reach, beside, low};
+use crate::reach::{Reach, low};
+use figures::lengths::least_beside;
 use limits::limit::Limit;
 use road::road::Road;
 use rows::record::RowRecord;
@@ -70,7 +71,7 @@ pub(crate) fn start<L: Limit>(road: &Road, limit: &L, records: &mut [RowRecord],
         let kept = leasts.get(row).copied();
         let lengths = Lengths::first(road, limit, records[row].read(), kept, least_entry);
         set_lengths(&mut records[row], lengths);
-        least_entry = beside(lengths.exit);
+        least_entry = least_beside(lengths.exit);
     }
 }
 
@@ -83,6 +84,6 @@ pub(crate) fn push_back(road: &Road, records: &mut [RowRecord])
     for row in (0..records.len()).rev() {
         let lengths = Lengths::raised(road, records[row].read(), least_exit);
         set_lengths(&mut records[row], lengths);
-        least_exit = beside(lengths.entry);
+        least_exit = least_beside(lengths.entry);
     }
 }

@@ -8,8 +8,8 @@ use Rattle.road.specs.declared.road.Road.{Road}
 use Rattle.rows.specs.declared.record.RowRecord.{RowRecord}
 use Rattle.rows.specs.declared.row.Row.{Row}
 use Rattle.rows.specs.Reading.{row_of, rows_of}
-use Rattle.findings.specs.declared.checking.TooMany.{TooMany}
-use Rattle.findings.specs.declared.checking.TooMany.TheVariants.{Rows, Findings}
+use Rattle.findings.specs.declared.TooMany.{TooMany}
+use Rattle.findings.specs.declared.TooMany.TheVariants.{Rows, Findings}
 use Rattle.findings.specs.declared.finding.Finding.{Finding}
 use Rattle.findings.specs.Findings.{Checked, Written}
 use Rattle.findings.specs.Findings.{FindingsOf, OneList}

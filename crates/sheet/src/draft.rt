@@ -5,7 +5,7 @@ use crate::fitted::Fitted;
 use crate::records::{check_records, new_record, record_at, records};
 use findings::finding::Finding;
 use fitting::fit;
-use limits::limit::{LONGEST as LONGEST_CLOTHOID, Limit};
+use limits::limit::{LONGEST_CLOTHOID, Limit};
 use plain::NewRow;
 use road::refusal::Refusal;
 use road::road::Road;
@@ -65,7 +65,7 @@ impl Draft {
         let record = new_record(position, new)?;
         records(rows, self.count, position)?;
         if position > self.count {
-            return Err(Refusal::NoSuchPlace { row: position });
+            return Err(Refusal::NoSuchRow { row: position });
         }
         if self.count >= MOST_ROWS {
             return Err(Refusal::Full { row: position });
@@ -85,7 +85,7 @@ impl Draft {
         records(rows, self.count, row)?;
         let mut roll = Roll::over(rows, self.count);
         roll.remove(row, RowRecord::BLANK)
-            .map_err(|_| Refusal::NoSuchPlace { row })?;
+            .map_err(|_| Refusal::NoSuchRow { row })?;
         self.count -= 1;
         Ok(())
     }

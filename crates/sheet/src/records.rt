@@ -25,7 +25,7 @@ pub(crate) fn record_at(rows: &[RowRecord], count: usize, row: usize) -> Result<
 {
     let records = records(rows, count, row)?;
     if row >= count {
-        return Err(Refusal::NoSuchPlace { row });
+        return Err(Refusal::NoSuchRow { row });
     }
     Ok(records[row])
 }

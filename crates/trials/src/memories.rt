@@ -115,7 +115,7 @@ fn editing(rt: HostRuntime) -> Result<(), Fail> {
         ),
         refused(add(9, new), 2, Refusal::ShortMemory { row: 9 }),
         refused(add(0, new), 0, Refusal::ShortMemory { row: 0 }),
-        refused(add(LAST, new), 3, Refusal::NoSuchPlace { row: LAST }),
+        refused(add(LAST, new), 3, Refusal::NoSuchRow { row: LAST }),
         refused(add(3, new), 3, Refusal::Full { row: 3 }),
         refused(set(9, 2_000_001), 2, Refusal::HandLength { row: 9 }),
         refused(set(9, 0), 2, Refusal::ShortMemory { row: 9 }),
@@ -124,7 +124,7 @@ fn editing(rt: HostRuntime) -> Result<(), Fail> {
         refused(
             Call::TakeOut { row: LAST },
             3,
-            Refusal::NoSuchPlace { row: LAST },
+            Refusal::NoSuchRow { row: LAST },
         ),
     ];
     let sheet = all_made(&rt, sheet, &mut rows, &cases);
@@ -173,7 +173,7 @@ fn fitted(rt: HostRuntime) -> Result<(), Fail> {
     let cases = [
         done(FIT, LAST),
         refused(ask(0), 2, Refusal::ShortMemory { row: 0 }),
-        refused(ask(LAST), 3, Refusal::NoSuchPlace { row: LAST }),
+        refused(ask(LAST), 3, Refusal::NoSuchRow { row: LAST }),
         refused(ask(0), 3, Refusal::NotACurve { row: 0 }),
         answered(ask(1), 3, Outcome::Parameter(333_335)),
         refused(check(3), 2, Refusal::ShortMemory { row: 0 }),

@@ -4,7 +4,7 @@ ghost use Rattle.trials.specs.Own.{own, own_lawful};
 use crate::made::place;
 use limits::all::AllOf;
 use limits::either::Either;
-use limits::limit::{LONGEST, Limit};
+use limits::limit::{LONGEST_CLOTHOID, Limit};
 use limits::pile::Pile;
 use limits::place::Place;
 use norma::compulsory::{COMPULSORY, CompulsoryPile};
@@ -22,7 +22,7 @@ impl Limit for OwnLimit {
     ghost lawful = { λ _ _. own_lawful };
 
     fn admits(&self, _place: &Place, length: u32) -> bool {
-        30_000 <= length && length <= LONGEST
+        30_000 <= length && length <= LONGEST_CLOTHOID
     }
 }
 
@@ -32,8 +32,8 @@ fn asks<L: Limit>(rt: &impl Abort, limit: &L, least: u32) -> Result<(), Fail> {
     assert_eq!(rt; limit.least_length(&place), Some(least));
     assert!(rt; !limit.admits(&place, least.saturating_sub(1)));
     assert!(rt; limit.admits(&place, least));
-    assert!(rt; limit.admits(&place, LONGEST));
-    assert!(rt; !limit.admits(&place, LONGEST + 1));
+    assert!(rt; limit.admits(&place, LONGEST_CLOTHOID));
+    assert!(rt; !limit.admits(&place, LONGEST_CLOTHOID + 1));
     Ok(())
 }
 

@@ -12,9 +12,10 @@ use Rattle.findings.specs.declared.kind.Kind.{Kind}
 use Rattle.findings.specs.declared.kind.Kind.TheVariants as kind
 use Rattle.findings.specs.Around.{straights, total, EndWith}
 use Rattle.findings.specs.Findings.{rule_of, side_of, Found}
-use Rattle.findings.specs.Rules.{Admission, BrokenByCurve, BrokenByStraight, Broken, shortest_run_lem, longest_run_lem}
-use Rattle.radii.specs.Ranges.{next_radius_lem, least_radius_lem}
-use Rattle.radii.proofs.Ranges.{next_radius_is, least_radius_is}
+use Rattle.findings.specs.Rules.{Admission, BrokenByCurve, BrokenByStraight, Broken}
+use Rattle.figures.specs.Runs.{shortest_run_lem, longest_run_lem}
+use Rattle.figures.specs.Ranges.{next_radius_lem, least_radius_lem}
+use Rattle.figures.proofs.Ranges.{next_radius_is, least_radius_is}
 use Rattle.wording.specs.declared.explained.Explained.{Explained}
 use Rattle.wording.specs.declared.neighbours.Neighbour.{Neighbour}
 use Rattle.wording.specs.declared.reason.Reason.{Reason}

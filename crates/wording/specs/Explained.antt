@@ -13,8 +13,9 @@ use Rattle.findings.specs.declared.finding.Rule.TheVariants as rule
 use Rattle.findings.specs.declared.finding.Side.{Side}
 use Rattle.findings.specs.declared.finding.Side.TheVariants as side
 use Rattle.findings.specs.Around.{total, EndWith, BeginWith}
-use Rattle.findings.specs.Rules.{Follows, shortest_run_lem, longest_run_lem}
-use Rattle.radii.specs.Ranges.{RangeOf, WideEnough}
+use Rattle.figures.specs.Radii.{Follows, WideEnough}
+use Rattle.figures.specs.Runs.{shortest_run_lem, longest_run_lem}
+use Rattle.figures.specs.Ranges.{RangeOf}
 use Rattle.wording.specs.declared.explained.Explained.{Explained}
 use Rattle.wording.specs.declared.neighbours.Neighbour.{Neighbour}
 use Rattle.wording.specs.declared.reason.Clothoid.{Clothoid}

@@ -1,5 +1,4 @@
 pub mod Sentences
-pub mod Lengths
 pub mod Beside
 pub mod Explained
 pub mod Reasons

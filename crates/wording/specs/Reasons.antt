@@ -15,8 +15,8 @@ use Rattle.findings.specs.declared.finding.Rule.{Rule}
 use Rattle.findings.specs.declared.finding.Rule.TheVariants as rule
 use Rattle.findings.specs.declared.finding.Side.{Side}
 use Rattle.findings.specs.declared.finding.Side.TheVariants as side
-use Rattle.findings.specs.Rules.{shortest_run_lem, longest_run_lem}
-use Rattle.radii.specs.Ranges.{next_radius_lem, least_radius_lem}
+use Rattle.figures.specs.Runs.{shortest_run_lem, longest_run_lem}
+use Rattle.figures.specs.Ranges.{next_radius_lem, least_radius_lem}
 use Rattle.wording.specs.declared.explained.Explained.{Explained}
 use Rattle.wording.specs.declared.neighbours.Neighbour.{Neighbour}
 use Rattle.wording.specs.declared.reason.Clothoid.{Clothoid}

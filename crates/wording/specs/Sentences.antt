@@ -11,7 +11,7 @@ use Rattle.wording.specs.declared.reason.Clothoid.{Clothoid}
 use Rattle.wording.specs.declared.reason.Disagreement.{Disagreement}
 use Rattle.wording.specs.declared.reason.Reason.{Reason}
 use Rattle.wording.specs.declared.reason.Reason.TheVariants.{Unadmitted, TooLong, Uncalled, Unequal, Disharmony, NoArc, TightRadius, Disagreeing, SmallTurn, ShortRun, LongRun, SlightTurn}
-use Rattle.wording.specs.Lengths.{longest_of, least_beside, longest_beside, longest_pair_of}
+use Rattle.figures.specs.Lengths.{longest_of, least_beside, longest_beside, longest_pair_of}
 
 -- At the exit the radii are judged in the return sense.
 abbrev pub sense_text : End → List ℕ

@@ -3,7 +3,6 @@
 
 pub mod explained;
 pub mod in_metres;
-mod lengths;
 pub mod neighbours;
 pub mod reason;
 mod reasons;

@@ -1,6 +1,6 @@
 // Why a finding is given: what decides it, with its figures. Lengths and radii in mm, turns in ten-thousandths of a gon.
 use crate::neighbours::Neighbour;
-use radii::NextRadius;
+use figures::NextRadius;
 use rows::end::End;
 use rows::row::Curve;
 

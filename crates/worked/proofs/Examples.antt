@@ -20,7 +20,8 @@ use Rattle.rows.specs.declared.row.Curve.{Curve}
 use Rattle.rows.specs.declared.row.Sense.TheVariants.{Left}
 use Rattle.rows.specs.Bounded.{within_top}
 use Rattle.rows.specs.Curves.{place_of}
-use Rattle.findings.specs.Rules.{LeavesArc, Admitted, TooLong}
+use Rattle.figures.specs.Lengths.{LeavesArc}
+use Rattle.findings.specs.Rules.{Admitted, TooLong}
 use Rattle.road.specs.declared.refusal.Refusal.{Refusal}
 use Rattle.road.specs.Refusals.{number_of, FirstApplying}
 use Rattle.limits.specs.Places.{place_grounds}

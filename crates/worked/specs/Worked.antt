@@ -13,7 +13,8 @@ use Rattle.limits.specs.Admission.{In}
 use Rattle.limits.specs.Least.{Smallest}
 use Rattle.norma.specs.Formulas.{comfort, transition, azimuth, shift, fifth_of_turn, compulsory}
 use Rattle.rows.specs.declared.row.Curve.{Curve}
-use Rattle.findings.specs.Rules.{LeavesArc, Admitted, TooLong}
+use Rattle.figures.specs.Lengths.{LeavesArc}
+use Rattle.findings.specs.Rules.{Admitted, TooLong}
 use Rattle.label.specs.declared.Label.{Label}
 
 -- The example road: C-100, edge distance 3,500 mm, one lane turning, the usual J.

@@ -1,4 +1,4 @@
-// Curves worked by hand: what the definitions give them, and what the code answers.
+//! Curves worked by hand: what the definitions give them, and what the code answers.
 #![tactic(auto)]
 
 ghost use Rattle.std.specs.Prelude.{◌≡◌, Ok};
@@ -11,7 +11,7 @@ use road::jerk::JerkChoice;
 use road::refusal::Refusal;
 use road::road::Road;
 
-// The label of the example curve: a conventional road for 100 km/h with one lane of 3.5 m turning and the usual J, 1,000 m and 30 gon.
+/// The label of the example curve: a conventional road for 100 km/h with one lane of 3.5 m turning and the usual J, 1,000 m and 30 gon.
 pub fn worked_label() -> Result<Label, Refusal>
     ensures table { Worked }
     ensures value { result ≡ Ok example_label }

@@ -4,8 +4,8 @@ use Rattle.std.proofs.lemmas.Result.{err_from_is_err_and}
 use Rattle.sheet.proofs.Keeps.{halted, relengthened, no_record, no_curve}
 use Rattle.sheet.proofs.draft.Draft.set_lengths.Goals as goal
 
-pub returns-then-entry-gt-LONGEST : goal.returns-then-entry-gt-LONGEST
-returns-then-entry-gt-LONGEST c = halted _ _ 6 _ (search rules)
+pub returns-then-entry-gt-LONGEST_CLOTHOID : goal.returns-then-entry-gt-LONGEST_CLOTHOID
+returns-then-entry-gt-LONGEST_CLOTHOID c = halted _ _ 6 _ (search rules)
 
 pub returns-in_err-record_at : goal.returns-in_err-record_at
 returns-in_err-record_at c =

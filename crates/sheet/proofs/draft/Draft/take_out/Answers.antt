@@ -15,7 +15,7 @@ pub returns-in_err-map_err : goal.returns-in_err-map_err
 returns-in_err-map_err c =
     let p = err_from_is_err_and c.from_residual-in_err-map_err.result c.from_residual-in_err-map_err.ensures.1 in
     let given = given_err c.map_err.result _ c.remove.result c.map_err.ensures.cases _ c.in_err-map_err.was in
-    let named : c.in_err-map_err.field-0.0 ≡ number.NoSuchPlace c.args.row = search (rules, given.2) in
+    let named : c.in_err-map_err.field-0.0 ≡ number.NoSuchRow c.args.row = search (rules, given.2) in
     let refused = not_removed c.over-roll.result c.remove.new.self c.args.row blank_record given.0 (rw given.1 at c.remove.ensures.edit) in
     rw (p.1, p.2, named) (turned_down _ _ _ _ _ 8 _ (search (rules, c.in_ok-records.ensures.0)) (search rules))
 

@@ -1,0 +1,4 @@
+pub mod Followed
+pub mod Quotients
+pub mod Ranges
+pub mod Tests

@@ -1,0 +1,5 @@
+pub mod Lengths
+pub mod Radii
+pub mod Ranges
+pub mod Runs
+pub mod Tests
