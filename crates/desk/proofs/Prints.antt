@@ -16,40 +16,40 @@ then_ok (Ok x) f p = f p
 then_ok (Err e) f p = p
 
 -- a row more is listed
-rows_more : (place : ℕ) (rows : List Row) (r : Row) → rows_text place (rows ++ r ∷ []) ≡ rows_text place rows ++ as_line (row_text (place + length rows) r)
-rows_more place [] r = append-nil (as_line (row_text place r)) ∙ ap (λ n. as_line (row_text n r)) (sym (add-zero place))
-rows_more place (o ∷ rows) r =
-    let further : (place + 1) + length rows ≡ place + length (o ∷ rows) = omega arith in
-    ap (λ l. as_line (row_text place o) ++ l) (rows_more (place + 1) rows r ∙ ap (λ n. rows_text (place + 1) rows ++ as_line (row_text n r)) further)
-    ∙ sym (append_assoc (as_line (row_text place o)) (rows_text (place + 1) rows) (as_line (row_text (place + length (o ∷ rows)) r)))
+rows_more : (position : ℕ) (rows : List Row) (r : Row) → rows_text position (rows ++ r ∷ []) ≡ rows_text position rows ++ as_line (row_text (position + length rows) r)
+rows_more position [] r = append-nil (as_line (row_text position r)) ∙ ap (λ n. as_line (row_text n r)) (sym (add-zero position))
+rows_more position (o ∷ rows) r =
+    let further : (position + 1) + length rows ≡ position + length (o ∷ rows) = omega arith in
+    ap (λ l. as_line (row_text position o) ++ l) (rows_more (position + 1) rows r ∙ ap (λ n. rows_text (position + 1) rows ++ as_line (row_text n r)) further)
+    ∙ sym (append_assoc (as_line (row_text position o)) (rows_text (position + 1) rows) (as_line (row_text (position + length (o ∷ rows)) r)))
 
 -- the same of the rows that records stand for
 pub rows_next : (old mid new : Option (List ℕ)) (records : List RowRecord) (i : ℕ) (d : RowRecord) (r : Row) → i < length records → r ≡ row_of (get_or records i d) → Appends old mid (rows_text 0 (map row_of (take i records))) → Appends mid new (as_line (row_text i r)) → Appends old new (rows_text 0 (map row_of (take (i + 1) records)))
 rows_next old mid new records i d r within is before now =
-    let place : i ≡ 0 + length (map row_of (take i records)) = omega (arith, length-map (take i records) row_of, length-take-le i records (omega arith)) in
+    let position : i ≡ 0 + length (map row_of (take i records)) = omega (arith, length-map (take i records) row_of, length-take-le i records (omega arith)) in
     let rows : map row_of (take i records) ++ r ∷ [] ≡ map row_of (take (i + 1) records) = ap (λ x. map row_of (take i records) ++ x ∷ []) is ∙ sym (map_more row_of records i d within) in
     let last : rows_text 0 (map row_of (take i records)) ++ as_line (row_text i r) ≡ rows_text 0 (map row_of (take (i + 1) records)) =
-    ap (λ n. rows_text 0 (map row_of (take i records)) ++ as_line (row_text n r)) place ∙ sym (rows_more 0 (map row_of (take i records)) r) ∙ ap (rows_text 0) rows in
+    ap (λ n. rows_text 0 (map row_of (take i records)) ++ as_line (row_text n r)) position ∙ sym (rows_more 0 (map row_of (take i records)) r) ∙ ap (rows_text 0) rows in
     subst (Appends old new) last (append_both old mid new (rows_text 0 (map row_of (take i records))) (as_line (row_text i r)) before now)
 
 -- a row more is set out
-set_out_more : (place : ℕ) (rows : List Row) (text : List ℕ) (r : Row) (last : SetOut) → SetOutList place rows text → SetsOut (place + length rows) r last → SetOutList place (rows ++ r ∷ []) (text ++ as_line (set_out_text last))
-set_out_more place [] text r last is out = (last, [], subst (λ n. SetsOut n r last) (add-zero place) out, refl, ap (λ l. l ++ as_line (set_out_text last)) is ∙ sym (append-nil (as_line (set_out_text last))))
-set_out_more place (o ∷ rows) text r last (first, rest, sets, list, is) out =
-    let further : place + length (o ∷ rows) ≡ (place + 1) + length rows = omega arith in (
+set_out_more : (position : ℕ) (rows : List Row) (text : List ℕ) (r : Row) (last : SetOut) → SetOutList position rows text → SetsOut (position + length rows) r last → SetOutList position (rows ++ r ∷ []) (text ++ as_line (set_out_text last))
+set_out_more position [] text r last is out = (last, [], subst (λ n. SetsOut n r last) (add-zero position) out, refl, ap (λ l. l ++ as_line (set_out_text last)) is ∙ sym (append-nil (as_line (set_out_text last))))
+set_out_more position (o ∷ rows) text r last (first, rest, sets, list, is) out =
+    let further : position + length (o ∷ rows) ≡ (position + 1) + length rows = omega arith in (
       first,
       rest ++ as_line (set_out_text last),
       sets,
-      set_out_more (place + 1) rows rest r last list (subst (λ n. SetsOut n r last) further out),
+      set_out_more (position + 1) rows rest r last list (subst (λ n. SetsOut n r last) further out),
       ap (λ l. l ++ as_line (set_out_text last)) is ∙ append_assoc (as_line (set_out_text first)) rest (as_line (set_out_text last)),
     )
 
 -- the same of the rows that records stand for
 pub set_out_next : (old mid new : Option (List ℕ)) (records : List RowRecord) (i : ℕ) (d : RowRecord) (r : Row) (last : SetOut) → i < length records → r ≡ row_of (get_or records i d) → (text : List ℕ) × SetOutList 0 (map row_of (take i records)) text × Appends old mid text → SetsOut i r last → Appends mid new (as_line (set_out_text last)) → (text : List ℕ) × SetOutList 0 (map row_of (take (i + 1) records)) text × Appends old new text
 set_out_next old mid new records i d r last within is (text, list, before) out now =
-    let place : i ≡ 0 + length (map row_of (take i records)) = omega (arith, length-map (take i records) row_of, length-take-le i records (omega arith)) in
+    let position : i ≡ 0 + length (map row_of (take i records)) = omega (arith, length-map (take i records) row_of, length-take-le i records (omega arith)) in
     let rows : map row_of (take i records) ++ r ∷ [] ≡ map row_of (take (i + 1) records) = ap (λ x. map row_of (take i records) ++ x ∷ []) is ∙ sym (map_more row_of records i d within) in (
       text ++ as_line (set_out_text last),
-      subst (λ rs. SetOutList 0 rs (text ++ as_line (set_out_text last))) rows (set_out_more 0 (map row_of (take i records)) text r last list (subst (λ n. SetsOut n r last) place out)),
+      subst (λ rs. SetOutList 0 rs (text ++ as_line (set_out_text last))) rows (set_out_more 0 (map row_of (take i records)) text r last list (subst (λ n. SetsOut n r last) position out)),
       append_both old mid new text (as_line (set_out_text last)) before now,
     )

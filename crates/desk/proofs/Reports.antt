@@ -9,7 +9,7 @@ use Rattle.findings.specs.declared.finding.Finding.{Finding}
 use Rattle.plain.specs.Sheet.{fitted, check}
 use Rattle.sheet.specs.States.{listed, Untouched, Performs}
 use Rattle.series.specs.Calls.{mark_of, road_of, count_of, stands}
-use Rattle.series.specs.declared.mark.Sheet.{Sheet}
+use Rattle.series.specs.declared.any_sheet.Sheet.{Sheet}
 use Rattle.choice.specs.declared.in_force.LimitsInForce.{LimitsInForce}
 use Rattle.answers.specs.declared.verdict.Verdict.{Verdict}
 use Rattle.answers.specs.declared.answer.Answer.TheVariants.{Found}
@@ -19,7 +19,7 @@ use Rattle.report.specs.Explaining.{LinesOf}
 use Rattle.report.specs.Tables.{SheetTable}
 use Rattle.report.specs.Findings.{FindingsBelow}
 use Rattle.desk.specs.declared.desk.Desk.{Desk}
-use Rattle.desk.specs.Desk.{meaning, rows_in, findings_in}
+use Rattle.desk.specs.Desk.{meaning_of, rows_in, findings_in}
 use Rattle.desk.specs.Printing.{as_line}
 use Rattle.desk.specs.Calling.{verdict_of}
 use Rattle.desk.specs.Reporting.{has_mark, SheetShown, Below, Reports}
@@ -58,7 +58,7 @@ found_lines (Err e) road limits records old mid new findings n said after = afte
 pub reported : (line : ℕ) (s : Sheet) (d after : Desk) (o : Option Sheet) (v : Verdict) (found : Result ℕ Refusal) (old mid new : Option (List ℕ)) (rows seen : List RowRecord) (findings findings' : List Finding)
     → o ≡ Some s → after.sheet ≡ Some s → after.limits ≡ d.limits → rows_in after ≡ rows_in d → findings_in after ≡ findings'
     → rows ≡ rows_in d → findings ≡ findings_in d → seen ≡ rows_in d
-    → Performs (stands s rows) (check (meaning d.limits) (length findings)) (listed found findings') (stands s rows)
+    → Performs (stands s rows) (check (meaning_of d.limits) (length findings)) (listed found findings') (stands s rows)
     → Untouched found findings findings'
     → (table : List ℕ) × SheetShown s seen d.limits table × Appends old mid table
     → (below : List ℕ) × Below line (road_of s) d.limits (take (count_of s) seen) findings' found below × Appends mid new below

@@ -5,8 +5,8 @@ use Rattle.plain.specs.Sheet.{add, take_out, set_lengths, check, fit, parameter,
 use Rattle.plain.specs.Sheet as plain
 use Rattle.sheet.specs.States.{shown, Performs}
 use Rattle.series.specs.Calls.{count_of, stands}
-use Rattle.series.specs.Runs.{findings_after}
-use Rattle.series.specs.declared.mark.Sheet.{Sheet}
+use Rattle.series.specs.Histories.{findings_after}
+use Rattle.series.specs.declared.any_sheet.Sheet.{Sheet}
 use Rattle.choice.specs.declared.in_force.LimitsInForce.{LimitsInForce}
 use Rattle.commands.specs.Names.{name_of_call}
 use Rattle.commands.specs.declared.command.SheetCommand.{SheetCommand}
@@ -16,21 +16,20 @@ use Rattle.answers.specs.declared.failure.Failure.TheVariants.{NoRoad}
 use Rattle.answers.specs.declared.verdict.Verdict.{Verdict}
 use Rattle.answers.specs.declared.verdict.Verdict.TheVariants.{Answered, Refused, Wrong}
 use Rattle.desk.specs.declared.desk.Desk.{Desk}
-use Rattle.desk.specs.declared.order.Order.{Order}
-use Rattle.desk.specs.Desk.{meaning, rows_in, findings_in, Same}
+use Rattle.desk.specs.Desk.{meaning_of, rows_in, findings_in, Same}
 use Rattle.desk.specs.Printing.{wrong_line, Says}
 
 -- What borrowed limits mean.
 abbrev pub meant : Bor LimitsInForce → plain.Meaning
-meant limits = meaning limits.now
+meant limits = meaning_of limits.now
 
 -- What a command asks of a sheet of `count` rows, under the limits, with space for so many findings.
 abbrev pub asks : LimitsInForce → (space count : ℕ) → SheetCommand → plain.Call
 asks limits space count (Add row before) = add (unwrap_or before count) row
 asks limits space count (Remove row) = take_out row
 asks limits space count (Set row entry exit) = set_lengths row entry exit
-asks limits space count Check = check (meaning limits) space
-asks limits space count Fit = fit (meaning limits)
+asks limits space count Check = check (meaning_of limits) space
+asks limits space count Fit = fit (meaning_of limits)
 asks limits space count (Parameter row at) = parameter row at
 asks limits space count Reopen = reopen
 
@@ -42,20 +41,20 @@ verdict_of (value A) = Answered
 verdict_of (refused number row) = Refused
 verdict_of barred = Wrong
 
--- The call that an order asks is made on the open sheet, whose rows the memory holds, under the limits in force and with all the memory that there is:
+-- The call that a line's command asks is made on the open sheet, whose rows the memory holds, under the limits in force and with all the memory that there is:
 -- it keeps its own contract, which is a step of the plain sheet, and its answer is written.
-pub record Called (o : Order) (s : Sheet) (before after : Desk) (text : List ℕ) (verdict : Verdict) : Type 0 where
+pub record Called (line : ℕ) (command : SheetCommand) (s : Sheet) (before after : Desk) (text : List ℕ) (verdict : Verdict) : Type 0 where
   pub left : Sheet
   pub answer : plain.Answer
   pub sheet : after.sheet ≡ Some left
   pub limits : after.limits ≡ before.limits
   pub holds : count_of s ≤ length (rows_in before)
-  pub performs : Performs (stands s (rows_in before)) (asks before.limits (length (findings_in before)) (count_of s) o.command) answer (stands left (rows_in after))
+  pub performs : Performs (stands s (rows_in before)) (asks before.limits (length (findings_in before)) (count_of s) command) answer (stands left (rows_in after))
   pub findings : findings_in after ≡ findings_after answer (findings_in before)
-  pub says : Says before.limits o answer (shown (stands left (rows_in after))) text
+  pub says : Says before.limits line command answer (shown (stands left (rows_in after))) text
   pub fares : verdict ≡ verdict_of answer
 
 -- Where no sheet is open, the line of a call is wrong.
-abbrev pub CalledOn : Order → Option Sheet → Desk → Desk → List ℕ → Verdict → Type 0
-CalledOn o (Some s) before after text verdict = Called o s before after text verdict
-CalledOn o None before after text verdict = Same before after × (text ≡ wrong_line o.line (failure_text (NoRoad (name_of_call o.command)))) × (verdict ≡ Wrong)
+abbrev pub CalledOn : (line : ℕ) → SheetCommand → Option Sheet → Desk → Desk → List ℕ → Verdict → Type 0
+CalledOn line command (Some s) before after text verdict = Called line command s before after text verdict
+CalledOn line command None before after text verdict = Same before after × (text ≡ wrong_line line (failure_text (NoRoad (name_of_call command)))) × (verdict ≡ Wrong)

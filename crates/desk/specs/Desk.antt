@@ -13,8 +13,8 @@ use Rattle.rows.specs.declared.record.RowRecord.{RowRecord}
 use Rattle.findings.specs.declared.finding.Finding.{Finding}
 use Rattle.plain.specs.Sheet as plain
 use Rattle.series.specs.Calls.{road_of, stands}
-use Rattle.series.specs.Runs.{opened_in}
-use Rattle.series.specs.declared.mark.Sheet.{Sheet}
+use Rattle.series.specs.Histories.{opened_in}
+use Rattle.series.specs.declared.any_sheet.Sheet.{Sheet}
 use Rattle.commands.specs.declared.name.Name.{Name}
 use Rattle.commands.specs.declared.name.Name.TheVariants as names
 use Rattle.answers.specs.declared.answer.Answer.{Answer}
@@ -24,8 +24,15 @@ use Rattle.answers.specs.declared.failure.Failure.TheVariants.{Refused, NoRoad}
 use Rattle.desk.specs.declared.desk.Desk.{Desk}
 
 -- What limits mean.
-abbrev pub meaning : LimitsInForce → plain.Meaning
-meaning limits = record { admits = in_force limits; lawful = in_force_lawful limits }
+abbrev pub meaning_of : LimitsInForce → plain.Meaning
+meaning_of = plain.meaning in_force in_force_lawful
+
+-- The open sheet, where there is one, and the limits in force for it.
+abbrev pub sheet_on : Desk → Option Sheet
+sheet_on d = d.sheet
+
+abbrev pub limits_on : Desk → LimitsInForce
+limits_on d = d.limits
 
 -- The memory that the rows and the findings lie in.
 abbrev pub rows_in : Desk → List RowRecord

@@ -1,5 +1,6 @@
 -- What is written of a call.
 use Rattle.std.specs.Prelude.{◌≡◌, ℕ, ◌+◌, ◌-◌, map, unwrap_or, Some, None, Option, List, [], ◌∷◌, ◌++◌, length, codes, decimal}
+use Rattle.std.specs.Io.KnownBytes.{Appends}
 use Rattle.road.specs.declared.refusal.Refusal.{Refusal}
 use Rattle.road.specs.Refusals.{number_of, row_of}
 use Rattle.rows.specs.declared.record.RowRecord.{RowRecord}
@@ -8,8 +9,8 @@ use Rattle.rows.specs.Reading.{row_of as row_at, rows_of}
 use Rattle.plain.specs.Sheet.{Mark, draft, fitted, done, found, value, refused, barred}
 use Rattle.plain.specs.Sheet as plain
 use Rattle.series.specs.Calls.{count_of}
-use Rattle.series.specs.declared.mark.Sheet.{Sheet}
-use Rattle.commands.specs.declared.command.Command.TheVariants as command
+use Rattle.series.specs.declared.any_sheet.Sheet.{Sheet}
+use Rattle.commands.specs.declared.command.Command.TheVariants as line_says
 use Rattle.commands.specs.declared.command.SheetCommand.{SheetCommand}
 use Rattle.commands.specs.declared.command.SheetCommand.TheVariants.{Add, Remove, Set, Check, Fit, Parameter, Reopen}
 use Rattle.commands.specs.declared.name.Name.{Name}
@@ -24,26 +25,29 @@ use Rattle.answers.specs.Shown.{answer_text, failure_text, row_text, set_out_tex
 use Rattle.choice.specs.declared.in_force.LimitsInForce.{LimitsInForce}
 use Rattle.wording.specs.Lines.{explained_text}
 use Rattle.report.specs.Explaining.{LinesOf}
-use Rattle.desk.specs.declared.order.Order.{Order}
+
+-- A text that is so was written, behind what had been written before.
+abbrev pub Writes : (List ℕ → Type 0) → (before after : Option (List ℕ)) → Type 0
+Writes says before after = (text : List ℕ) × says text × Appends before after text
 
 abbrev pub as_line : List ℕ → List ℕ
 as_line text = text ++ 10 ∷ []
 
--- Rows, a line each; the first stands at the place.
-abbrev pub rows_text : (place : ℕ) → List Row → List ℕ
-rows_text place [] = []
-rows_text place (r ∷ rows) = as_line (row_text place r) ++ rows_text (place + 1) rows
+-- Rows, a line each; the first stands at the position.
+abbrev pub rows_text : (position : ℕ) → List Row → List ℕ
+rows_text position [] = []
+rows_text position (r ∷ rows) = as_line (row_text position r) ++ rows_text (position + 1) rows
 
--- The setting-out list of rows, a line each; the first stands at the place.
-abbrev pub SetOutList : (place : ℕ) → List Row → List ℕ → Type 0
-SetOutList place [] text = text ≡ []
-SetOutList place (r ∷ rows) text =
-    (first : SetOut) × (rest : List ℕ) × SetsOut place r first × SetOutList (place + 1) rows rest × (text ≡ as_line (set_out_text first) ++ rest)
+-- The setting-out list of rows, a line each; the first stands at the position.
+abbrev pub SetOutList : (position : ℕ) → List Row → List ℕ → Type 0
+SetOutList position [] text = text ≡ []
+SetOutList position (r ∷ rows) text =
+    (first : SetOut) × (rest : List ℕ) × SetsOut position r first × SetOutList (position + 1) rows rest × (text ≡ as_line (set_out_text first) ++ rest)
 
 -- A sheet of this mark does not have the call of the name.
-abbrev pub barred_lem : Mark → Name → Failure
-barred_lem draft name = failure.Draft name
-barred_lem fitted name = failure.Fitted name
+abbrev pub why_barred : Mark → Name → Failure
+why_barred draft name = failure.Draft name
+why_barred fitted name = failure.Fitted name
 
 -- What is written of a wrong line: its number, and what is wrong with it.
 abbrev pub wrong_line : (line : ℕ) → List ℕ → List ℕ
@@ -69,13 +73,13 @@ abbrev pub listing_of : Option Sheet → List RowRecord → List ℕ
 listing_of (Some s) memory = rows_text 0 (rows_of memory (count_of s))
 listing_of None memory = []
 
--- What is written of an order that is answered so, where this sheet is left, under the limits.
-abbrev pub Says : LimitsInForce → Order → plain.Answer → plain.Plain → List ℕ → Type 0
-Says limits o done s text = SaysDone o.command s.rows text
-Says limits o (found number findings) s text =
+-- What is written of a line's command that is answered so, where this sheet is left, under the limits.
+abbrev pub Says : LimitsInForce → (line : ℕ) → SheetCommand → plain.Answer → plain.Plain → List ℕ → Type 0
+Says limits line command done s text = SaysDone command s.rows text
+Says limits line command (found number findings) s text =
     (records : List RowRecord) × (lines : List ℕ) × (map row_at records ≡ s.rows) × LinesOf s.road limits records explained_text findings lines
     × (text ≡ lines ++ as_line (answer_text (answer.Found number)))
-Says limits o (value A) s text = text ≡ parameter_text o.command A
-Says limits o (refused number row) s text =
-    (refusal : Refusal) × (number ≡ number_of refusal) × (row ≡ row_of refusal) × (text ≡ as_line (refused_text refusal (command.Sheet o.command) o.line))
-Says limits o barred s text = text ≡ wrong_line o.line (failure_text (barred_lem s.mark (name_of_call o.command)))
+Says limits line command (value A) s text = text ≡ parameter_text command A
+Says limits line command (refused number row) s text =
+    (refusal : Refusal) × (number ≡ number_of refusal) × (row ≡ row_of refusal) × (text ≡ as_line (refused_text refusal (line_says.Sheet command) line))
+Says limits line command barred s text = text ≡ wrong_line line (failure_text (why_barred s.mark (name_of_call command)))

@@ -8,7 +8,7 @@ use Rattle.findings.specs.declared.finding.Finding.{Finding}
 use Rattle.plain.specs.Sheet.{Mark, draft, fitted, check}
 use Rattle.sheet.specs.States.{listed, Untouched, Performs}
 use Rattle.series.specs.Calls.{mark_of, road_of, count_of, stands}
-use Rattle.series.specs.declared.mark.Sheet.{Sheet}
+use Rattle.series.specs.declared.any_sheet.Sheet.{Sheet}
 use Rattle.choice.specs.declared.in_force.LimitsInForce.{LimitsInForce}
 use Rattle.commands.specs.declared.command.Command.TheVariants.{Report}
 use Rattle.commands.specs.declared.name.Name.TheVariants as name
@@ -20,7 +20,7 @@ use Rattle.answers.specs.Shown.{failure_text}
 use Rattle.report.specs.Tables.{SheetTable}
 use Rattle.report.specs.Findings.{FindingsBelow}
 use Rattle.desk.specs.declared.desk.Desk.{Desk}
-use Rattle.desk.specs.Desk.{meaning, rows_in, findings_in, Same}
+use Rattle.desk.specs.Desk.{meaning_of, rows_in, findings_in, Same}
 use Rattle.desk.specs.Printing.{as_line, wrong_line}
 use Rattle.desk.specs.Calling.{verdict_of}
 
@@ -46,7 +46,7 @@ pub record ReportOf (line : ℕ) (s : Sheet) (before after : Desk) (text : List 
   pub limits : after.limits ≡ before.limits
   pub rows : rows_in after ≡ rows_in before
   pub found : Result ℕ Refusal
-  pub checked : Performs (stands s (rows_in before)) (check (meaning before.limits) (length (findings_in before))) (listed found (findings_in after)) (stands s (rows_in before))
+  pub checked : Performs (stands s (rows_in before)) (check (meaning_of before.limits) (length (findings_in before))) (listed found (findings_in after)) (stands s (rows_in before))
   pub rest : Untouched found (findings_in before) (findings_in after)
   pub table : List ℕ
   pub below : List ℕ

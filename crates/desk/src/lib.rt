@@ -1,10 +1,9 @@
-// The open sheet, the memory that it lies in, and the limits in force for it; and what commands do with them.
+//! A desk is what the program works at: the one open sheet, the memory that it lies in, and the limits in force for it. Here is what each command does with it,
+//! and what is written of it.
 #![tactic(auto)]
 
-mod calling;
+mod call;
 pub mod desk;
-mod listing;
-mod opening;
-pub mod order;
-mod reporting;
-mod saying;
+mod view;
+
+pub use desk::Desk;

@@ -1,6 +1,6 @@
 use Rattle.std.proofs.Common.{◌∙◌}
 use Rattle.desk.proofs.Reports.{table_of_sheet}
-use Rattle.desk.proofs.listing.View.write_table.Goals as goal
+use Rattle.desk.proofs.view.View.write_table.Goals as goal
 
 pub returns : goal.returns
 returns g c =

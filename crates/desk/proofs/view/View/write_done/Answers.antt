@@ -4,7 +4,7 @@ use Rattle.answers.specs.Shown.{answer_text}
 use Rattle.desk.specs.Printing.{as_line}
 use Rattle.report.proofs.Tables.{append_both}
 use Rattle.desk.proofs.Prints.{then_ok}
-use Rattle.desk.proofs.listing.View.write_done.Goals as goal
+use Rattle.desk.proofs.view.View.write_done.Goals as goal
 
 pub returns-in_ok-writeln-in-Fit : goal.returns-in_ok-writeln-in-Fit
 returns-in_ok-writeln-in-Fit g c =

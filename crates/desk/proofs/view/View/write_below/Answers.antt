@@ -1,7 +1,7 @@
 use Rattle.std.proofs.Common.{◌∙◌, take}
 use Rattle.series.specs.Calls.{road_of, count_of}
 use Rattle.desk.proofs.Reports.{below_of_sheet}
-use Rattle.desk.proofs.listing.View.write_below.Goals as goal
+use Rattle.desk.proofs.view.View.write_below.Goals as goal
 
 pub returns : goal.returns
 returns g c =

@@ -1,4 +1,4 @@
-use Rattle.desk.proofs.reporting.check.Goals as goal
+use Rattle.desk.proofs.view.check.Goals as goal
 
 pub returns-in-Draft-clause-step : goal.returns-in-Draft-clause-step
 returns-in-Draft-clause-step c = rw c.in-Draft.is c.check.ensures.step
