@@ -15,11 +15,11 @@ use text::lines::{Pending, split_line};
 // How many bytes are asked for at a time.
 const CHUNK: usize = 65_536;
 
-// Why an input is not answered to its end.
+/// Why an input is not answered to its end.
 #[derive(Debug, Drop)]
 pub enum Failed {
     Reading(io::Error),
-    // writing, or want of memory
+    /// writing, or want of memory
     Writing(io::Error),
 }
 
@@ -120,7 +120,7 @@ fn answer_last<W: Write>(
     session.line(rt, out, pending.line())
 }
 
-// Answers every line of the reader, the last also without a newline, unless it is to stop at one; and tells which were refused or wrong.
+/// Answers every line of the reader, the last also without a newline, unless it is to stop at one; and tells which were refused or wrong.
 pub fn answer_all<R: Read, W: Write>(
     rt: &HostRuntime,
     stop: bool,

@@ -6,31 +6,34 @@ use road::road::Road;
 use rows::record::RowRecord;
 use rows::row::{Curve, Row};
 
-// What lies on one side of a row: the nearest curve there, and the length of the run up to it, or up to the sheet's end, mm.
-// A run is neighbouring straights, and its length is their sum; 0 where there are none.
+/// What lies on one side of a row: the nearest curve there, and the length of the run up to it, or up to the sheet's end, mm.
+/// A run is neighbouring straights, and its length is their sum; 0 where there are none.
 #[derive(Clone, Copy)]
 pub struct Flank {
+    /// the nearest curve, if there is one
     pub curve: Option<Curve>,
+    /// mm
     pub run: u64,
 }
 
 impl Flank {
+    /// What lies behind the first row.
     pub const NOTHING: Flank = Flank {
         curve: None,
         run: 0,
     };
 }
 
-// What the clothoids of a row are held to. An enum, since an Option in an Option would not say which of the two is missing.
+/// What the clothoids of a row are held to.
 #[derive(Clone, Copy)]
 pub enum Clothoids {
-    // the row calls for none
+    /// the row calls for none
     Uncalled,
-    // the least length that is admitted, if there is one, mm
+    /// the least length that is admitted, if there is one, mm
     Called(Option<u32>),
 }
 
-// A row with what lies behind it and ahead of it.
+/// A row with what lies behind it and ahead of it.
 #[derive(Clone, Copy)]
 pub struct Context {
     pub row: Row,

@@ -16,12 +16,12 @@ use rows::row::{Curve, Row};
 // The bounds of a calling curve's two clothoids.
 #[derive(Clone, Copy)]
 pub(crate) struct Bounds {
-    // the least lengths that are admitted at the entry and at the exit, if there are any, mm
+    /// the least lengths that are admitted at the entry and at the exit, if there are any, mm
     pub entry: Option<u32>,
     pub exit: Option<u32>,
-    // whether entry and exit have to be equal
+    /// whether entry and exit have to be equal
     pub even: bool,
-    // the greatest sum of the two that leaves an arc, mm
+    /// the greatest sum of the two that leaves an arc, mm
     pub room: u32,
 }
 
