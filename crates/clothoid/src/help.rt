@@ -1,22 +1,38 @@
 // What the program says of itself.
+use commands::name::Name;
+use std::fmt;
+
 pub const USAGE: &str = "usage: clothoid [--stop] [FILE]";
 
-pub const HELP: &str = "Answers the commands of FILE, or of standard input, a line each.
+/// The commands, each with what it does and an example, and what holds for all of them.
+#[derive(Clone, Copy, Debug)]
+pub struct Help;
+
+// What stands before the commands.
+const HEAD: &str = "Answers the commands of FILE, or of standard input, a line each.
 With --stop it ends at the first line that is refused or wrong, after its answer.
 Lengths and radii are in mm, turns in ten-thousandths of a gon, speeds in km/h.
 Rows are counted from 0.
+";
 
-  road CLASS SPEED B LANES usual|top
-      Opens a road with an empty sheet of rows, in place of the sheet before: its
+// Each command with its operands, what it does, and an example that goes on from the one before.
+const COMMANDS: [(Name, &str, &str); 13] = [
+    (
+        Name::Road,
+        " CLASS SPEED B LANES usual|top",
+        "      Opens a road with an empty sheet of rows, in place of the sheet before: its
       class (A, M or C), its speed, the distance B from the axis of rotation to the
       pavement's edge, the lanes turning (3 for more), and whether J is the usual one
       or the top one. Later commands speak of this road. A road that is refused leaves
       the sheet before.
       road C 100 3500 1 usual
       opened C-100 group 2 least radius 450000
-
-  label R W
-      What a curve of radius R that turns by W has on the open road: the
+",
+    ),
+    (
+        Name::Label,
+        " R W",
+        "      What a curve of radius R that turns by W has on the open road: the
       superelevation p in hundredths of a percent, the lengths of clothoid that
       comfort, the superelevation's transition, the azimuth, the shift and a fifth
       of the turn ask for (none where no length up to 2000000 does), the least length
@@ -24,49 +40,73 @@ Rows are counted from 0.
       parameter A.
       label 1000000 300000
       label 1000000 300000 p 647 comfort 9555 transition 49229 azimuth 111112 shift 109545 fifth 188502 least 111112 A 333335
-
-  straight LENGTH [before N]
-      Adds a straight before row N, or after the last row.
+",
+    ),
+    (
+        Name::Straight,
+        " LENGTH [before N]",
+        "      Adds a straight before row N, or after the last row.
       straight 250000
       added 0
-
-  curve left|right R W [before N]
-      Adds a curve of radius R that turns by W, with clothoids of length 0.
+",
+    ),
+    (
+        Name::Curve,
+        " left|right R W [before N]",
+        "      Adds a curve of radius R that turns by W, with clothoids of length 0.
       curve left 1000000 300000
       added 1
-
-  remove N
-      Takes row N out; the rows after it move down.
+",
+    ),
+    (
+        Name::Remove,
+        " N",
+        "      Takes row N out; the rows after it move down.
       remove 0
       removed 0
-
-  set N ENTRY EXIT
-      Gives the curve in row N clothoids of these lengths.
+",
+    ),
+    (
+        Name::Set,
+        " N ENTRY EXIT",
+        "      Gives the curve in row N clothoids of these lengths.
       set 0 111112 111112
       set 0
-
-  rows
-      Lists the rows: straight N LENGTH, or curve N SENSE R W ENTRY EXIT.
+",
+    ),
+    (
+        Name::Rows,
+        "",
+        "      Lists the rows: straight N LENGTH, or curve N SENSE R W ENTRY EXIT.
       rows
       curve 0 left 1000000 300000 111112 111112
-
-  limit NAME..
-      Has the clothoids keep these limits, together: comfort, transition, azimuth,
+",
+    ),
+    (
+        Name::Limit,
+        " NAME..",
+        "      Has the clothoids keep these limits, together: comfort, transition, azimuth,
       shift, fifth, or table FILE, a client's table. A sheet just opened has the
       compulsory four: comfort transition azimuth shift.
       limit comfort fifth
       limit comfort fifth
-
-  check
-      Lists what is not in order: the row, the rule's number, the part of the row,
+",
+    ),
+    (
+        Name::Check,
+        "",
+        "      Lists what is not in order: the row, the rule's number, the part of the row,
       whether it is a breach or advice, and why; and then how many findings there are.
       check
       finding 0 1 entry breach: the entry clothoid of 111112 mm is not admitted; the least admitted length is 188502 mm
       finding 0 1 exit breach: the exit clothoid of 111112 mm is not admitted; the least admitted length is 188502 mm
       findings 2
-
-  fit
-      Gives the curves the shortest clothoids that keep rules 1 to 6 under the limits,
+",
+    ),
+    (
+        Name::Fit,
+        "",
+        "      Gives the curves the shortest clothoids that keep rules 1 to 6 under the limits,
       and prints how many rows there are and the setting-out list: S ROW LENGTH for a
       straight, V ROW ENTRY A EXIT A for a curve, each A the parameter of the clothoid
       before it. Where no clothoids keep the rules, refused 12 names the first row up
@@ -76,19 +116,28 @@ Rows are counted from 0.
       fit
       fitted 1
       V 0 111112 333335 111112 333335
-
-  parameter N entry|exit
-      The parameter of the clothoid at that end of the curve in row N of a fitted sheet.
+",
+    ),
+    (
+        Name::Parameter,
+        " N entry|exit",
+        "      The parameter of the clothoid at that end of the curve in row N of a fitted sheet.
       parameter 0 entry
       parameter 0 entry 333335
-
-  reopen
-      Makes a fitted sheet one that may be edited, with its lengths.
+",
+    ),
+    (
+        Name::Reopen,
+        "",
+        "      Makes a fitted sheet one that may be edited, with its lengths.
       reopen
       reopened
-
-  report
-      Shows the sheet as a table in metres, gon and percent: its road, its mark, the
+",
+    ),
+    (
+        Name::Report,
+        "",
+        "      Shows the sheet as a table in metres, gon and percent: its road, its mark, the
       limits in force with their numbers, and each row; for a curve its superelevation,
       the lengths of its clothoids and their parameters, the least length that the
       limits admit there, and which limit that comes from. Below it stands what a check
@@ -103,7 +152,12 @@ Rows are counted from 0.
          0  curve left             1000.000   30.0000      6.47   111.112   333.335   111.112   333.335   111.112  1 azimuth
 
       0 findings
+",
+    ),
+];
 
+// What stands behind them.
+const FOOT: &str = "
 Numbers are digits only. Blank lines and lines that begin with # are skipped.
 A command that the rules refuse answers 'refused NUMBER ROW: ' with the reason, the
 value that was refused and the line. A line that is no command or no UTF-8 text, or is
@@ -115,3 +169,13 @@ has how many lines were wrong and how many were refused, with the first of each.
 The status is 0 where no line was wrong or refused; 1 where a line or an argument was
 wrong, or reading or writing failed; 2 where lines were refused and none was wrong.
 ";
+
+impl fmt::Display for Help {
+    fn fmt<W: fmt::Write>(&self, f: &mut fmt::Formatter<W>) -> fmt::Result {
+        f.write_str(HEAD)?;
+        for (name, operands, what) in &COMMANDS {
+            write!(f, "\n  {name}{operands}\n{what}")?;
+        }
+        f.write_str(FOOT)
+    }
+}

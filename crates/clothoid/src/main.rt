@@ -1,4 +1,4 @@
-// Answers commands on roads, a line each, from a file or from standard input.
+//! The program: it answers commands on roads, a line each, from a file or from standard input.
 #![tactic(auto)]
 
 ghost use Rattle.std.specs.Prelude.{◌≡◌, ◌⊎◌, List, ℕ, IfOk, IfSome, OnOk, MatchResult};
@@ -19,7 +19,7 @@ use text::shown::Shown;
 mod help;
 pub mod reader;
 
-use help::{HELP, USAGE};
+use help::{Help, USAGE};
 use reader::{Failed, answer_all};
 
 // Says on standard error why the program ends.
@@ -97,7 +97,8 @@ fn answer_file(rt: &HostRuntime, stop: bool, name: &str) -> ExitCode {
 
 // Prints the commands.
 fn print_help(rt: &HostRuntime) -> ExitCode {
-    match print!(rt; "{USAGE}\n\n{HELP}") {
+    let help = Help;
+    match print!(rt; "{USAGE}\n\n{help}") {
         Ok(()) => ExitCode::from(0),
         Err(why) => end(rt, "", Err(Failed::Writing(why))),
     }

@@ -3,7 +3,8 @@ ghost use Rattle.std.specs.Prelude.{◌≡◌, ◌<◌, ◌⊎◌, List, ℕ, �
 ghost use Rattle.std.specs.Io.KnownBytes.{Appends};
 ghost use Rattle.text.specs.Lines.{ended_lines, last_line, unended};
 ghost use Rattle.session.specs.Faults.{any};
-ghost use Rattle.session.specs.Reading.{LinesDone, InputAnswered};
+ghost use Rattle.session.specs.Reading.{InputAnswered};
+ghost use Rattle.clothoid.specs.Answered.{LinesAnswered};
 
 use session::Session;
 use session::faults::Faults;
@@ -18,8 +19,9 @@ const CHUNK: usize = 65_536;
 /// Why an input is not answered to its end.
 #[derive(Debug, Drop)]
 pub enum Failed {
+    /// It could not be read.
     Reading(io::Error),
-    /// writing, or want of memory
+    /// An answer could not be written, or memory ran out.
     Writing(io::Error),
 }
 
@@ -51,7 +53,7 @@ fn answer_chunk<W: Write>(
     out: &mut W,
     chunk: &[u8],
 ) -> io::Result<()>
-    ensures lines { OnOk result ((text : List ℕ) × LinesDone stop (ended_lines pending.old chunk.now) session.old session.new text × Appends (W.contents out.old) (W.contents out.new) text) }
+    ensures lines { OnOk result (LinesAnswered stop (ended_lines pending.old chunk.now) session.old session.new (W.contents out.old) (W.contents out.new)) }
     ensures rest { OnOk result (T (stop && any session.new.faults) ⊎ (pending.new ≡ unended pending.old chunk.now)) }
 {
     let mut rest = chunk;
@@ -84,11 +86,11 @@ fn answer_ended<R: Read, W: Write>(
     reader: &mut R,
     out: &mut W,
 ) -> Result<(), Failed>
-    ensures lines { OnOk result (IfSome (R.remaining reader.old) (λ input. (text : List ℕ) × LinesDone stop (ended_lines pending.old input) session.old session.new text × Appends (W.contents out.old) (W.contents out.new) text)) }
+    ensures lines { OnOk result (IfSome (R.remaining reader.old) (λ input. LinesAnswered stop (ended_lines pending.old input) session.old session.new (W.contents out.old) (W.contents out.new))) }
     ensures rest { OnOk result (IfSome (R.remaining reader.old) (λ input. T (stop && any session.new.faults) ⊎ (pending.new ≡ unended pending.old input))) }
 {
     let mut buffer = block(rt.alloc())?;
-    // Counted, since a loop whose end is not shown would need the right to wait.
+    // counted, since a loop with no end would need the right to wait
     for _ in 0..u64::MAX {
         if stops(stop, session) {
             return Ok(());
@@ -112,7 +114,7 @@ fn answer_last<W: Write>(
     pending: &Pending,
     out: &mut W,
 ) -> io::Result<()>
-    ensures { OnOk result ((text : List ℕ) × LinesDone stop (last_line pending.now) session.old session.new text × Appends (W.contents out.old) (W.contents out.new) text) }
+    ensures { OnOk result (LinesAnswered stop (last_line pending.now) session.old session.new (W.contents out.old) (W.contents out.new)) }
 {
     if pending.is_empty() || stops(stop, session) {
         return Ok(());
