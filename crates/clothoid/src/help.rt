@@ -98,8 +98,8 @@ const COMMANDS: [(Name, &str, &str); 13] = [
         "      Lists what is not in order: the row, the rule's number, the part of the row,
       whether it is a breach or advice, and why; and then how many findings there are.
       check
-      finding 0 1 entry breach: the entry clothoid of 111112 mm is not admitted; the least admitted length is 188502 mm
-      finding 0 1 exit breach: the exit clothoid of 111112 mm is not admitted; the least admitted length is 188502 mm
+      finding 0 1 entry breach: entry clothoid of 111112 mm; at least 188502 mm required
+      finding 0 1 exit breach: exit clothoid of 111112 mm; at least 188502 mm required
       findings 2
 ",
     ),
