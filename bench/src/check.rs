@@ -29,8 +29,17 @@ impl fmt::Display for Finding {
             Side::Entry => "entry",
             Side::Exit => "exit",
         };
-        let weight = if self.rule < 10 { "breach" } else { "advice" };
-        write!(f, "{} {} {side} {weight}", self.row, self.rule)
+        write!(f, "{} {} {side} {}", self.row, self.rule, self.weight())
+    }
+}
+
+impl Finding {
+    pub fn weight(&self) -> &'static str {
+        if self.rule < 10 {
+            "breach"
+        } else {
+            "advice"
+        }
     }
 }
 

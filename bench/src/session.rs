@@ -390,11 +390,9 @@ mod tests {
             "added 1",
             "added 2",
             "set 0",
-            "finding 1 10 whole advice: the run of 138999 mm between curves of opposite senses is below 139000 mm",
-            "finding 2 1 entry breach: the entry clothoid of 0 mm is not admitted; the least admitted length is \
-             103924 mm",
-            "finding 2 1 exit breach: the exit clothoid of 0 mm is not admitted; the least admitted length is \
-             103924 mm",
+            "finding 1 10 whole advice: straight of 138999 mm between opposite curves; at least 139000 mm advised",
+            "finding 2 1 entry breach: entry clothoid of 0 mm; at least 103924 mm required",
+            "finding 2 1 exit breach: exit clothoid of 0 mm; at least 103924 mm required",
             "findings 3",
             "fitted 3",
             "V 0 111112 333335 111112 333335",
