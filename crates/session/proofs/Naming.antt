@@ -8,8 +8,8 @@ use Rattle.choice.specs.declared.ChosenLimit.{ChosenLimit}
 use Rattle.choice.specs.declared.ChosenLimit.TheVariants.{Comfort, Transition, Azimuth, Shift, FifthOfTurn, Table}
 use Rattle.limit_names.specs.declared.LimitName.TheVariants as names
 use Rattle.limit_names.specs.Names.{limit_word}
-use Rattle.session.specs.declared.choosing.NoLimits.{NoLimits}
-use Rattle.session.specs.declared.choosing.NoLimits.TheVariants.{Unreadable, NoMemory}
+use Rattle.session.specs.declared.limit_words.NoLimits.{NoLimits}
+use Rattle.session.specs.declared.limit_words.NoLimits.TheVariants.{Unreadable, NoMemory}
 use Rattle.session.specs.Choosing.{NamedFirst, FileAt, OfFile}
 
 -- what fits in a part is the whole

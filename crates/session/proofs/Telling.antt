@@ -6,7 +6,7 @@ use Rattle.std.specs.Io.KnownBytes.{Appends}
 use Rattle.std.specs.List.{flat_map}
 use Rattle.std.proofs.lemmas.List.{append-nil, take_more, flat_map_more}
 use Rattle.report.proofs.Tables.{append_both}
-use Rattle.series.specs.declared.mark.Sheet.{Sheet as OpenSheet}
+use Rattle.series.specs.declared.any_sheet.Sheet.{Sheet as OpenSheet}
 use Rattle.commands.specs.declared.name.Name.{Name}
 use Rattle.commands.specs.declared.name.Name.TheVariants as name
 use Rattle.answers.specs.declared.failure.Failure.TheVariants.{NoRoad}

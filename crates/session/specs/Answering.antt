@@ -14,7 +14,7 @@ use Rattle.commands.specs.declared.command.Command.{Command}
 use Rattle.commands.specs.declared.command.Command.TheVariants.{Road, Label, Sheet, Rows, Report, Limit}
 use Rattle.choice.specs.declared.in_force.LimitsInForce.{LimitsInForce}
 use Rattle.choice.specs.declared.in_force.LimitsInForce.TheVariants.{Compulsory, Named}
-use Rattle.series.specs.declared.mark.Sheet.{Sheet as OpenSheet}
+use Rattle.series.specs.declared.any_sheet.Sheet.{Sheet as OpenSheet}
 use Rattle.answers.specs.declared.answer.Answer.{Answer}
 use Rattle.answers.specs.declared.failure.Failure.{Failure}
 use Rattle.answers.specs.declared.failure.Failure.TheVariants as failure
@@ -93,7 +93,7 @@ module _ (line : ℕ) (before after : Desk) (text : List ℕ) (verdict : Verdict
   abbrev pub CommandLeft : List (Bor (List ℕ)) → Command → Type 0
   CommandLeft ws (Road design) = RoadLeft design
   CommandLeft ws (Label radius turn) = LabelLeft radius turn
-  CommandLeft ws (Sheet command) = CalledOn (record { line = line; command = command }) before.sheet before after text verdict
+  CommandLeft ws (Sheet command) = CalledOn line command before.sheet before after text verdict
   CommandLeft ws Rows = RowsLeft before.sheet
   CommandLeft ws Report = Reports line before.sheet before after text verdict
   CommandLeft ws Limit = LimitLeft ws before.sheet

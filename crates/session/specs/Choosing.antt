@@ -8,10 +8,10 @@ use Rattle.choice.specs.declared.ChosenLimit.TheVariants.{Table}
 use Rattle.choice.specs.Governing.{name_of}
 use Rattle.text.specs.Shown.{shown}
 use Rattle.commands.specs.Names.{NamedAlone}
-use Rattle.session.specs.declared.choosing.NoLimits.{NoLimits}
-use Rattle.session.specs.declared.choosing.NoLimits.TheVariants.{Unreadable, NoMemory}
-use Rattle.session.specs.declared.choosing.NoTable.{NoTable}
-use Rattle.session.specs.declared.choosing.NoTable.TheVariants as no_table
+use Rattle.session.specs.declared.limit_words.NoLimits.{NoLimits}
+use Rattle.session.specs.declared.limit_words.NoLimits.TheVariants.{Unreadable, NoMemory}
+use Rattle.session.specs.declared.limit_words.NoTable.{NoTable}
+use Rattle.session.specs.declared.limit_words.NoTable.TheVariants as no_table
 
 -- The first of the words names the limit, and behind the name of a table stands that of its file, which has at most 64,000,000 bytes; the rest are the
 -- words behind these. No contract can say which bytes a file has.
@@ -25,7 +25,7 @@ abbrev pub NamesLimits : List (Bor (List ℕ)) → List ChosenLimit → Type 0
 NamesLimits ws [] = ws ≡ []
 NamesLimits ws (l ∷ ls) = (rest : List (Bor (List ℕ))) × NamedFirst ws l rest × NamesLimits rest ls
 
--- The word at place `at` is the name of a table's file, where the first of the words stands at place `from`.
+-- The word with the number `at` is the name of a table's file, where the first of the words has the number `from`.
 abbrev pub FileAt : (from : ℕ) → List (Bor (List ℕ)) → (at : ℕ) (file : List ℕ) → Type 0
 FileAt from [] at file = ⊥
 FileAt from (w ∷ []) at file = ⊥
@@ -51,13 +51,20 @@ abbrev pub IsLarge : (all : List ℕ) → NoTable → Type 0
 IsLarge all (no_table.Unreadable why) = Unit {0}
 IsLarge all no_table.TooLarge = 64_000_000 < length all
 
+-- All that a reader had, where that is known, and no more than a table has; and what is said where it has no table.
+abbrev pub WholeTable : (known : Option (List ℕ)) → List ℕ → Type 0
+WholeTable known bytes = IfSome known (λ all. (bytes ≡ all) × (length all ≤ 64_000_000))
+
+abbrev pub LargeIn : (known : Option (List ℕ)) → NoTable → Type 0
+LargeIn known why = IfSome known (λ all. IsLarge all why)
+
 abbrev pub no_table_text : NoTable → Option (List ℕ)
 no_table_text (no_table.Unreadable why) = None
 no_table_text no_table.TooLarge = Some (codes "it is larger than " ++ (decimal 64_000_000 ++ codes " bytes"))
 
 -- Why there are no limits. It is this file, for what is said of it; it is a file that the words name; or there is no memory.
 abbrev pub Reads : (at : ℕ) (file : List ℕ) (said : Option (List ℕ)) → NoLimits → Type 0
-Reads at file said (Unreadable place name why) = (place ≡ at) × (name.now ≡ file) × IfSome said (λ text. why.bytes.items ≡ text)
+Reads at file said (Unreadable number name why) = (number ≡ at) × (name.now ≡ file) × IfSome said (λ text. why.bytes.items ≡ text)
 Reads at file said (NoMemory e) = Unit {0}
 
 abbrev pub OfFile : (from : ℕ) → List (Bor (List ℕ)) → NoLimits → Type 0

@@ -9,6 +9,10 @@ use Rattle.session.specs.declared.faults.Faults.{Faults}
 use Rattle.session.specs.Answering.{LineLeft}
 use Rattle.session.specs.Faults.{counted, any}
 
+-- The lines of a session so far that were refused or wrong.
+abbrev pub faults_of : Session → Faults
+faults_of s = s.faults
+
 -- A line is answered: it has the next number, does on the desk what it says, writes this text, and how it fares is counted.
 pub record LineDone (line : Option (List ℕ)) (before after : Session) (text : List ℕ) : Type 0 where
   pub verdict : Verdict

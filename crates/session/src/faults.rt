@@ -1,4 +1,4 @@
-// How many lines were refused and how many were wrong, with the first of each.
+//! How many lines were refused and how many were wrong, with the first of each.
 ghost use Rattle.std.specs.Prelude.{◌≡◌, Some};
 ghost use Rattle.std.specs.Fmt.{WritesOnOk};
 ghost use Rattle.std.specs.Process.{exit_status};
@@ -8,19 +8,21 @@ use answers::verdict::Verdict;
 use std::fmt;
 use std::process::ExitCode;
 
-// How many lines fared so, and which was the first of them.
+/// How many lines fared so, and which was the first of them.
 #[derive(Clone, Copy, PartialEq, Eq, Debug)]
 pub struct Tally {
-    // how many, one at least
+    /// how many, one at least
     pub lines: u64,
-    // the number of the first
+    /// the number of the first, from 1 on
     pub first: u64,
 }
 
-// Those lines of an input that were not answered.
+/// Those lines of an input that were not answered.
 #[derive(Clone, Copy, PartialEq, Eq, Debug)]
 pub struct Faults {
+    /// the lines that say what cannot be asked
     pub wrong: Option<Tally>,
+    /// the lines that the rules refuse
     pub refused: Option<Tally>,
 }
 
@@ -41,6 +43,7 @@ fn one_more(line: u64, tally: Option<Tally>) -> Option<Tally>
 }
 
 impl Faults {
+    /// No line was refused or wrong.
     pub const NONE: Faults = Faults {
         wrong: None,
         refused: None,
@@ -63,14 +66,14 @@ impl Faults {
         }
     }
 
-    // Whether a line was refused or wrong.
+    /// Whether a line was refused or wrong.
     pub fn any(&self) -> bool
         ensures { result ≡ any self.now }
     {
         self.wrong.is_some() || self.refused.is_some()
     }
 
-    // The exit status: 1 where a line was wrong, 2 where lines were refused and none was wrong, and otherwise 0.
+    /// The exit status: 1 where a line was wrong, 2 where lines were refused and none was wrong, and otherwise 0.
     pub fn status(&self) -> ExitCode
         ensures { exit_status result ≡ status_of self.now }
     {

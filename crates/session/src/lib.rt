@@ -1,23 +1,24 @@
-// A desk, the number of the line that came last, and those lines that were refused or wrong.
+//! A session answers the lines of an input, one after the other: it is a desk, the number of the line that came last, and those lines that were refused or wrong.
 #![tactic(auto)]
 
-mod answering;
-mod choosing;
 pub mod faults;
+mod limit_words;
+mod line;
 
 ghost use Rattle.std.specs.Prelude.{◌≡◌, List, ℕ, IfOk, OnOk};
 ghost use Rattle.std.specs.Io.KnownBytes.{Appends};
 ghost use Rattle.session.specs.Answering.{bytes_of};
-ghost use Rattle.session.specs.Reading.{Begun, LineDone};
-ghost use Rattle.session.specs.Sheets.{LinesRun};
+ghost use Rattle.session.specs.Reading.{Begun, LineDone, faults_of};
+ghost use Rattle.session.specs.Sheets.{LinesMakeHistory};
 
-use answering::answer;
 use desk::desk::Desk;
-use faults::Faults;
+pub use faults::{Faults, Tally};
+use line::answer;
 use std::alloc::{AllocError, Global};
 use std::io;
 use std::io::Write;
 
+/// What the lines of an input so far have left: the desk, how many lines there were, and which of them were refused or wrong.
 #[derive(Drop)]
 pub struct Session {
     desk: Desk,
@@ -26,10 +27,10 @@ pub struct Session {
 }
 
 impl Session {
-    // A session with no sheet open. That the sheets its lines make are runs of the plain sheet is said here, once for all.
+    /// A session before its first line, with no sheet open. That its lines make a history of the plain sheet is said here, once for all.
     pub fn new(heap: Global) -> Result<Session, AllocError>
         ensures begun { IfOk result Begun }
-        ensures runs { LinesRun }
+        ensures history { LinesMakeHistory }
     {
         Ok(Session {
             desk: Desk::new(heap)?,
@@ -38,14 +39,15 @@ impl Session {
         })
     }
 
-    // The lines so far that were refused or wrong.
+    /// The lines so far that were refused or wrong.
     pub fn faults(&self) -> Faults
-        ensures { result ≡ self.now.faults }
+        ensures { result ≡ faults_of self.now }
     {
         self.faults
     }
 
-    // Answers the next line, as bytes without the newline; `None` is a line that is too long.
+    /// Answers the next line, as bytes without the newline; `None` is a line that is too long. A line that is refused or wrong says so, changes nothing and is counted.
+    /// An error is the machine's: what could not be written, or memory that could not be had.
     pub fn line<W: Write>(
         &mut self,
         rt: &HostRuntime,

@@ -1,8 +1,8 @@
-use Rattle.session.proofs.Sheets.{lines_run}
+use Rattle.session.proofs.Sheets.{lines_make_history}
 use Rattle.session.proofs.Session.new.Goals as goal
 
-pub returns-clause-runs : goal.returns-clause-runs
-returns-clause-runs c = lines_run
+pub returns-clause-history : goal.returns-clause-history
+returns-clause-history c = lines_make_history
 
-pub returns-in_err-new-clause-runs : goal.returns-in_err-new-clause-runs
-returns-in_err-new-clause-runs c = lines_run
+pub returns-in_err-new-clause-history : goal.returns-in_err-new-clause-history
+returns-in_err-new-clause-history c = lines_make_history

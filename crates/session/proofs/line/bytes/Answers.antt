@@ -1,6 +1,6 @@
 use Rattle.std.proofs.Common.{sym, ◌∙◌, append_assoc}
 use Rattle.session.proofs.Telling.{comment_left, no_text_left}
-use Rattle.session.proofs.answering.bytes.Goals as goal
+use Rattle.session.proofs.line.bytes.Goals as goal
 
 pub returns-in-Err : goal.returns-in-Err
 returns-in-Err g c = comment_left c.args.line c.args.desk.now c.args.bytes.now c.in-Err.ensures.cases.0 _ (sym c.is_comment.ensures ∙ c.if-is_comment.true)

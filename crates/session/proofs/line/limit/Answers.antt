@@ -7,7 +7,7 @@ use Rattle.answers.specs.declared.verdict.Verdict.TheVariants.{Wrong}
 use Rattle.session.specs.Choosing.{NamesLimits, OfFile}
 use Rattle.session.specs.Answering.{AreNamed, LimitLeft}
 use Rattle.session.proofs.Telling.{not_open, limit_named, limit_unreadable}
-use Rattle.session.proofs.answering.limit.Goals as goal
+use Rattle.session.proofs.line.limit.Goals as goal
 
 pub returns-in-Err : goal.returns-in-Err
 returns-in-Err g c =

@@ -1,6 +1,6 @@
 use Rattle.std.proofs.Common.{◌≤◌, length, arith}
 use Rattle.session.proofs.Naming.{whole}
-use Rattle.session.proofs.choosing.table_bytes.Goals as goal
+use Rattle.session.proofs.limit_words.table_bytes.Goals as goal
 
 pub returns : goal.returns
 returns g c =

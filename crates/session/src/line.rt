@@ -4,9 +4,10 @@ ghost use Rattle.std.specs.Io.KnownBytes.{Appends};
 ghost use Rattle.commands.specs.Names.{Names};
 ghost use Rattle.session.specs.Answering.{told_text, verdict_on, comment_bytes, Unmarked, RoadLeft, LabelLeft, RowsLeft, LimitLeft, CommandLeft, TextLeft, BytesLeft, LineLeft, bytes_of};
 ghost use Rattle.session.specs.Choosing.{echo};
+ghost use Rattle.desk.specs.Desk.{sheet_on};
 ghost use Rattle.desk.specs.Printing.{as_line, wrong_line};
 
-use crate::choosing::{NoLimits, named_limits};
+use crate::limit_words::{NoLimits, named_limits};
 use answers::answer::Answer;
 use answers::failure::Failure;
 use answers::refused::RefusedLine;
@@ -15,7 +16,6 @@ use commands::command::Command;
 use commands::name::Name;
 use commands::parse::{MOST_WORDS, parse};
 use desk::desk::Desk;
-use desk::order::Order;
 use road::design::RoadDesign;
 use std::io;
 use std::io::Write;
@@ -96,7 +96,7 @@ fn label<W: Write>(
 
 // Lists the rows of the open sheet.
 fn rows<W: Write>(desk: &Desk, out: &mut W, line: u64) -> io::Result<Verdict>
-    ensures { IfOk result (λ verdict. (text : List ℕ) × RowsLeft line desk.now desk.now text verdict desk.now.sheet × Appends (W.contents out.old) (W.contents out.new) text) }
+    ensures { IfOk result (λ verdict. (text : List ℕ) × RowsLeft line desk.now desk.now text verdict (sheet_on desk.now) × Appends (W.contents out.old) (W.contents out.new) text) }
 {
     if let Err(no_road) = desk.opened(Name::Rows) {
         writeln!(out, "error {line}: {no_road}")?;
@@ -128,7 +128,7 @@ fn limit<W: Write>(
     words: &[&str],
 ) -> io::Result<Verdict>
     requires { (0 < length words.now) × Names (drop 1 words.now) }
-    ensures { IfOk result (λ verdict. (text : List ℕ) × LimitLeft line desk.old desk.new text verdict words.now desk.old.sheet × Appends (W.contents out.old) (W.contents out.new) text) }
+    ensures { IfOk result (λ verdict. (text : List ℕ) × LimitLeft line desk.old desk.new text verdict words.now (sheet_on desk.old) × Appends (W.contents out.old) (W.contents out.new) text) }
 {
     if let Err(no_road) = desk.opened(Name::Limit) {
         writeln!(out, "error {line}: {no_road}")?;
@@ -168,7 +168,7 @@ fn command<W: Write>(
     match command {
         Command::Road(design) => open(desk, out, line, design),
         Command::Label { radius, turn } => label(desk, out, line, radius, turn),
-        Command::Sheet(command) => desk.call(out, &Order { line, command }),
+        Command::Sheet(command) => desk.call(out, line, command),
         Command::Rows => rows(desk, out, line),
         Command::Report => desk.report(out, line),
         Command::Limit => limit(rt, desk, out, line, words),

@@ -1,8 +1,8 @@
 // Limits that a line names, with the clients' tables that it names read from their files.
-ghost use Rattle.std.specs.Prelude.{◌≡◌, ◌+◌, ◌^◌, ◌<◌, ◌≤◌, length, drop, vec_items, IfOk, IfSome, MatchResult};
+ghost use Rattle.std.specs.Prelude.{◌≡◌, ◌+◌, ◌^◌, ◌<◌, ◌≤◌, length, drop, vec_items, IfOk, MatchResult};
 ghost use Rattle.commands.specs.Names.{Names};
-ghost use Rattle.session.specs.declared.choosing.NoTable.TheVariants.{Unreadable};
-ghost use Rattle.session.specs.Choosing.{IsLarge, no_table_text, NamedFirst, NamesLimits, OfFile, Reads};
+ghost use Rattle.session.specs.declared.limit_words.NoTable.TheVariants.{Unreadable};
+ghost use Rattle.session.specs.Choosing.{WholeTable, LargeIn, no_table_text, NamedFirst, NamesLimits, OfFile, Reads};
 
 use choice::ChosenLimit;
 use limit_names::{LimitName, limit_name};
@@ -17,7 +17,7 @@ const LARGEST_TABLE: u64 = 64_000_000;
 // Why limits cannot be had.
 #[derive(Debug, Drop)]
 pub(crate) enum NoLimits<'a> {
-    // the file that a word of the line names, whose place is counted from 1
+    // the file that a word of the line names, whose number is counted from 1
     Unreadable {
         at: usize,
         file: &'a str,
@@ -57,7 +57,7 @@ impl Error for NoTable {}
 // All bytes of a reader, where they are no more than the largest table has.
 fn table_bytes<R: Read + Drop>(heap: Global, reader: R) -> Result<Vec<u8>, NoTable>
     ensures few { IfOk result (λ bytes. length (vec_items bytes) ≤ 64_000_000) }
-    ensures all { MatchResult result (λ bytes. IfSome (R.remaining reader) (λ all. (vec_items bytes ≡ all) × (length all ≤ 64_000_000))) (λ e. IfSome (R.remaining reader) (λ all. IsLarge all e)) }
+    ensures all { MatchResult result (λ bytes. WholeTable (R.remaining reader) (vec_items bytes)) (LargeIn (R.remaining reader)) }
 {
     let mut bytes = Vec::new(heap);
     reader.take(LARGEST_TABLE + 1).read_to_end(&mut bytes)?;
@@ -84,7 +84,7 @@ fn unreadable(heap: Global, at: usize, file: &str, why: NoTable) -> NoLimits<'_>
     }
 }
 
-// The limit that the first of the words names, whose place is handed in, and how many words that takes.
+// The limit that the first of the words names, whose number in the line is handed in, and how many words that takes.
 fn first_limit<'a>(
     rt: &HostRuntime,
     at: usize,
@@ -113,7 +113,7 @@ fn first_limit<'a>(
     Ok((limit, 1))
 }
 
-// The limits that the words name, in their order; the first of them stands at place 2 of its line.
+// The limits that the words name, in their order; the first of them is word 2 of its line.
 pub(crate) fn named_limits<'a>(
     rt: &HostRuntime,
     words: &[&'a str],

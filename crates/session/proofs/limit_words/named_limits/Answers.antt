@@ -5,7 +5,7 @@ use Rattle.std.proofs.Math.ListN.{drop_of_length-le}
 use Rattle.commands.specs.Names.{Names}
 use Rattle.session.specs.Choosing.{NamedFirst, NamesLimits, FileAt, OfFile}
 use Rattle.session.proofs.Naming.{taken_so, file_behind, of_all}
-use Rattle.session.proofs.choosing.named_limits.Goals as goal
+use Rattle.session.proofs.limit_words.named_limits.Goals as goal
 
 pub returns-in_err-limit : goal.returns-in_err-limit
 returns-in_err-limit c =

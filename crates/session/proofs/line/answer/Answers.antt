@@ -1,5 +1,5 @@
 use Rattle.session.proofs.Telling.{line_of, too_long_left}
-use Rattle.session.proofs.answering.answer.Goals as goal
+use Rattle.session.proofs.line.answer.Goals as goal
 
 pub returns-in_ok-writeln-in-None : goal.returns-in_ok-writeln-in-None
 returns-in_ok-writeln-in-None g c = rw c.in-None.is (too_long_left c.args.number c.args.desk.now c.args.first _ _ c.in_ok-writeln-in-None.ensures.bytes)

@@ -3,7 +3,7 @@ use Rattle.commands.specs.declared.name.Name.TheVariants as name
 use Rattle.answers.specs.declared.verdict.Verdict.TheVariants.{Wrong}
 use Rattle.session.specs.Answering.{RowsLeft}
 use Rattle.session.proofs.Telling.{not_open}
-use Rattle.session.proofs.answering.rows.Goals as goal
+use Rattle.session.proofs.line.rows.Goals as goal
 
 pub returns-in-Err : goal.returns-in-Err
 returns-in-Err g c =

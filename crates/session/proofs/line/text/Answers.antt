@@ -1,7 +1,7 @@
 use Rattle.std.proofs.Common.{[], Ok, None, take, refl, rules}
 use Rattle.text.specs.Words.{Words}
 use Rattle.session.proofs.Telling.{nothing_more}
-use Rattle.session.proofs.answering.text.Goals as goal
+use Rattle.session.proofs.line.text.Goals as goal
 
 pub returns-in-Ok-None : goal.returns-in-Ok-None
 returns-in-Ok-None g c =

@@ -1,7 +1,7 @@
 use Rattle.std.proofs.Common.{◌≡◌, ◌≤◌, false, true, eqb, length, sym, ap, ◌∙◌, get_or, rules, arith}
 use Rattle.std.proofs.lemmas.List.{get_or_past}
 use Rattle.session.proofs.Comments.{comment_trimmed}
-use Rattle.session.proofs.answering.is_comment.Goals as goal
+use Rattle.session.proofs.line.is_comment.Goals as goal
 
 pub returns-in-35 : goal.returns-in-35
 returns-in-35 c =
