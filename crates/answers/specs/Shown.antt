@@ -24,10 +24,6 @@ joined [] = []
 joined (text ∷ []) = text
 joined (text ∷ next ∷ texts) = text ++ joined (next ∷ texts)
 
--- A line that is wrong, by its number and what is wrong with it.
-abbrev pub error_text : (line : ℕ) → List ℕ → List ℕ
-error_text line what = joined (codes "error " ∷ decimal line ∷ codes ": " ∷ what ∷ [])
-
 -- A refusal is shown by its number, the row that it names, and its reason; a command that the sheet does not allow by its name, the first word of its line.
 abbrev pub failure_text : Failure → List ℕ
 failure_text (failure.Refused refusal) =

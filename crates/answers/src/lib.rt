@@ -2,7 +2,6 @@
 #![tactic(auto)]
 
 pub mod answer;
-pub mod error_line;
 pub mod failure;
 pub mod refused;
 pub mod set_out;
@@ -10,7 +9,6 @@ pub mod shown_row;
 pub mod verdict;
 
 pub use answer::Answer;
-pub use error_line::ErrorLine;
 pub use failure::Failure;
 pub use refused::RefusedLine;
 pub use set_out::SetOut;
