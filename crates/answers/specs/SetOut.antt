@@ -7,8 +7,8 @@ use Rattle.answers.specs.declared.set_out.SetOut.{SetOut}
 use Rattle.answers.specs.declared.set_out.SetOut.TheVariants.{Straight, Curve}
 
 -- The length of a straight; of a curve the lengths of its entry and exit clothoids, each with its parameter.
-abbrev pub SetsOut : (place : ℕ) → Row → SetOut → Type 0
-SetsOut place (row.Straight s) line = line ≡ Straight place s.length
-SetsOut place (row.Curve c) line =
+abbrev pub SetsOut : (position : ℕ) → Row → SetOut → Type 0
+SetsOut position (row.Straight s) line = line ≡ Straight position s.length
+SetsOut position (row.Curve c) line =
     (entry : ℕ) × (exit : ℕ) × Parameter c.radius c.entry entry × Parameter c.radius c.exit exit
-    × (line ≡ Curve place c.entry entry c.exit exit)
+    × (line ≡ Curve position c.entry entry c.exit exit)

@@ -6,9 +6,8 @@ use Rattle.road.specs.Words.{class_word}
 use Rattle.label.specs.declared.Label.{Label}
 use Rattle.rows.specs.declared.row.Row.{Row}
 use Rattle.rows.specs.declared.row.Row.TheVariants.{Straight, Curve}
-use Rattle.rows.specs.Ends.{end_word}
+use Rattle.rows.specs.Ends.{end_word, sense_word}
 use Rattle.commands.specs.Names.{name_word}
-use Rattle.commands.specs.Words.{sense_word}
 use Rattle.answers.specs.declared.answer.Answer.{Answer}
 use Rattle.answers.specs.declared.answer.Answer.TheVariants.{Opened, Labelled, Added, Removed, LengthsSet, Found, Fitted, Parameter, Reopened}
 use Rattle.road.specs.Refusals.{number_of, row_of}
@@ -80,13 +79,13 @@ answer_text (Parameter row at parameter) =
     joined (codes "parameter " ∷ decimal row ∷ codes " " ∷ end_word at ∷ codes " " ∷ decimal parameter ∷ [])
 answer_text Reopened = codes "reopened"
 
--- A row with its place, as a line.
-abbrev pub row_text : (place : ℕ) → Row → List ℕ
-row_text place (Straight s) = joined (codes "straight " ∷ decimal place ∷ codes " " ∷ decimal s.length ∷ [])
-row_text place (Curve c) =
+-- A row with its position, as a line.
+abbrev pub row_text : (position : ℕ) → Row → List ℕ
+row_text position (Straight s) = joined (codes "straight " ∷ decimal position ∷ codes " " ∷ decimal s.length ∷ [])
+row_text position (Curve c) =
     joined
     (
-    codes "curve " ∷ decimal place
+    codes "curve " ∷ decimal position
     ∷ codes " " ∷ sense_word c.sense
     ∷ codes " " ∷ decimal c.radius
     ∷ codes " " ∷ decimal c.turn
@@ -95,14 +94,14 @@ row_text place (Curve c) =
     ∷ []
     )
 
--- A line of the setting-out list: its place and length, and for a curve each clothoid's length and parameter.
+-- A line of the setting-out list: its position and length, and for a curve each clothoid's length and parameter.
 abbrev pub set_out_text : SetOut → List ℕ
-set_out_text (set_out.Straight place length) =
-    joined (codes "S " ∷ decimal place ∷ codes " " ∷ decimal length ∷ [])
-set_out_text (set_out.Curve place entry entry_parameter exit exit_parameter) =
+set_out_text (set_out.Straight position length) =
+    joined (codes "S " ∷ decimal position ∷ codes " " ∷ decimal length ∷ [])
+set_out_text (set_out.Curve position entry entry_parameter exit exit_parameter) =
     joined
     (
-    codes "V " ∷ decimal place
+    codes "V " ∷ decimal position
     ∷ codes " " ∷ decimal entry
     ∷ codes " " ∷ decimal entry_parameter
     ∷ codes " " ∷ decimal exit

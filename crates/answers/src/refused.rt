@@ -24,7 +24,11 @@ pub struct RefusedLine {
 fn above_longest(entry: u32, exit: u32) -> u32
     ensures { result ≡ above_longest entry exit }
 {
-    if entry > LONGEST_CLOTHOID { entry } else { exit }
+    if entry > LONGEST_CLOTHOID {
+        entry
+    } else {
+        exit
+    }
 }
 
 // Writes the value that was refused, where there is one.

@@ -12,15 +12,15 @@ use std::fmt;
 pub enum SetOut {
     /// A straight.
     Straight {
-        /// The place of the row.
-        place: usize,
+        /// The position of the row.
+        position: usize,
         /// Its length.
         length: u32,
     },
     /// A curve, by its clothoids.
     Curve {
-        /// The place of the row.
-        place: usize,
+        /// The position of the row.
+        position: usize,
         /// The length of the clothoid at the entry.
         entry: u32,
         /// Its parameter, 0 where it has no length.
@@ -33,17 +33,17 @@ pub enum SetOut {
 }
 
 impl SetOut {
-    /// What is set out of the row at the place, each clothoid with its parameter, rounded up to a mm (the office's own).
-    pub fn of(place: usize, row: Row) -> SetOut
-        ensures { SetsOut place row result }
+    /// What is set out of the row at the position, each clothoid with its parameter, rounded up to a mm (the office's own).
+    pub fn of(position: usize, row: Row) -> SetOut
+        ensures { SetsOut position row result }
     {
         match row {
             Row::Straight(straight) => SetOut::Straight {
-                place,
+                position,
                 length: straight.length,
             },
             Row::Curve(curve) => SetOut::Curve {
-                place,
+                position,
                 entry: curve.entry,
                 entry_parameter: clothoid_parameter(curve.radius, curve.entry),
                 exit: curve.exit,
@@ -53,22 +53,22 @@ impl SetOut {
     }
 }
 
-/// Shows a straight as `S PLACE LENGTH`, and a curve as `V PLACE ENTRY A EXIT A`.
+/// Shows a straight as `S N LENGTH`, and a curve as `V N ENTRY A EXIT A`.
 impl fmt::Display for SetOut {
     ghost output = { λ line. Some (set_out_text line) };
 
     fn fmt<W: fmt::Write>(&self, f: &mut fmt::Formatter<W>) -> fmt::Result {
         match self {
-            SetOut::Straight { place, length } => write!(f, "S {place} {length}"),
+            SetOut::Straight { position, length } => write!(f, "S {position} {length}"),
             SetOut::Curve {
-                place,
+                position,
                 entry,
                 entry_parameter,
                 exit,
                 exit_parameter,
             } => write!(
                 f,
-                "V {place} {entry} {entry_parameter} {exit} {exit_parameter}"
+                "V {position} {entry} {entry_parameter} {exit} {exit_parameter}"
             ),
         }
     }

@@ -7,7 +7,7 @@ use Rattle.road.specs.declared.class.Class.{Class}
 use Rattle.road.specs.declared.jerk.JerkChoice.{JerkChoice}
 use Rattle.rows.specs.declared.end.End.{End}
 use Rattle.rows.specs.declared.row.Sense.{Sense}
-use Rattle.rows.specs.Ends.{end_word}
+use Rattle.rows.specs.Ends.{end_word, sense_word}
 use Rattle.commands.specs.declared.name.Name.{Name}
 use Rattle.commands.specs.declared.name.Name.TheVariants.{Road, Label, Straight, Curve, Remove, Set, Rows, Report, Limit, Check, Fit, Parameter, Reopen}
 use Rattle.commands.specs.declared.mistake.Expected.{Expected}
@@ -15,7 +15,7 @@ use Rattle.commands.specs.declared.mistake.Expected.TheVariants as want
 use Rattle.commands.specs.declared.mistake.ParseError.{ParseError}
 use Rattle.limit_names.specs.Names.{ALimit}
 use Rattle.commands.specs.Names.{name_word, ACommand, Names}
-use Rattle.commands.specs.Words.{word, choice_word, sense_word}
+use Rattle.commands.specs.Words.{word, choice_word}
 
 -- the error names a word of the line and its place, counted from 1, or the place after the last word
 abbrev pub Blames : List (Bor (List ℕ)) → ParseError → Type 0

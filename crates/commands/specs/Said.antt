@@ -2,7 +2,7 @@
 use Rattle.std.specs.Prelude.{◌≡◌, ℕ, ◌+◌, ◌<◌, ◌⊎◌, List, [], ◌∷◌, length, drop, Some, None, Ok, Err, codes, Option, Result, MatchResult, slice_index}
 use Rattle.std.specs.Borrow.{Bor}
 use Rattle.road.specs.Words.{class_word}
-use Rattle.rows.specs.Ends.{end_word}
+use Rattle.rows.specs.Ends.{end_word, sense_word}
 use Rattle.plain.specs.declared.NewRow.TheVariants as new
 use Rattle.commands.specs.declared.command.Command.{Command}
 use Rattle.commands.specs.declared.command.Command.TheVariants.{Road, Label, Sheet, Rows, Report, Limit}
@@ -13,7 +13,7 @@ use Rattle.commands.specs.declared.mistake.Expected.TheVariants as want
 use Rattle.commands.specs.declared.mistake.ParseError.{ParseError}
 use Rattle.commands.specs.Names.{name_word, name_of, Names}
 use Rattle.commands.specs.Mistakes.{Blames, Expects, In, StandsAt, Wrong, WrongBehind}
-use Rattle.commands.specs.Words.{word, Spells, choice_word, sense_word}
+use Rattle.commands.specs.Words.{word, Spells, choice_word}
 
 -- from place i on the words are `before N`, or the line ends there
 abbrev pub BeforeFrom : List (Bor (List ℕ)) → ℕ → Option ℕ → Type 0

@@ -4,8 +4,6 @@ use Rattle.std.specs.Borrow.{Bor}
 use Rattle.std.specs.Str.Parse.{IsNumeral, digits_value}
 use Rattle.road.specs.declared.jerk.JerkChoice.{JerkChoice}
 use Rattle.road.specs.declared.jerk.JerkChoice.TheVariants.{Usual, Top}
-use Rattle.rows.specs.declared.row.Sense.{Sense}
-use Rattle.rows.specs.declared.row.Sense.TheVariants.{Left, Right}
 
 -- what a read past the end gives
 abbrev pub none : Bor (List ℕ)
@@ -22,7 +20,3 @@ Spells w n = IsNumeral 10 w × (n ≡ min (digits_value 10 w) (2 ^ 32 - 1))
 abbrev pub choice_word : JerkChoice → List ℕ
 choice_word Usual = codes "usual"
 choice_word Top = codes "top"
-
-abbrev pub sense_word : Sense → List ℕ
-sense_word Left = codes "left"
-sense_word Right = codes "right"

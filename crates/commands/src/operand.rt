@@ -1,8 +1,8 @@
 // What a word stands for in a command.
 ghost use Rattle.std.specs.Prelude.{◌≡◌, List, ℕ, MatchOption, ⊤};
 ghost use Rattle.road.specs.Words.{class_word};
-ghost use Rattle.rows.specs.Ends.{end_word};
-ghost use Rattle.commands.specs.Words.{Spells, choice_word, sense_word};
+ghost use Rattle.rows.specs.Ends.{end_word, sense_word};
+ghost use Rattle.commands.specs.Words.{Spells, choice_word};
 ghost use Rattle.commands.specs.Names.{name_word};
 ghost use Rattle.limit_names.specs.Names.{limit_word};
 ghost use Rattle.commands.specs.Mistakes.{Wanted, MayEnd};

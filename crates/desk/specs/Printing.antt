@@ -1,6 +1,5 @@
 -- What is written of a call.
 use Rattle.std.specs.Prelude.{◌≡◌, ℕ, ◌+◌, ◌-◌, map, unwrap_or, Some, None, Option, List, [], ◌∷◌, ◌++◌, length, codes, decimal}
-use Rattle.std.specs.Io.KnownBytes.{Appends}
 use Rattle.road.specs.declared.refusal.Refusal.{Refusal}
 use Rattle.road.specs.Refusals.{number_of, row_of}
 use Rattle.rows.specs.declared.record.RowRecord.{RowRecord}
@@ -25,10 +24,6 @@ use Rattle.answers.specs.Shown.{answer_text, failure_text, row_text, set_out_tex
 use Rattle.choice.specs.declared.in_force.LimitsInForce.{LimitsInForce}
 use Rattle.wording.specs.Lines.{explained_text}
 use Rattle.report.specs.Explaining.{LinesOf}
-
--- A text that is so was written, behind what had been written before.
-abbrev pub Writes : (List ℕ → Type 0) → (before after : Option (List ℕ)) → Type 0
-Writes says before after = (text : List ℕ) × says text × Appends before after text
 
 abbrev pub as_line : List ℕ → List ℕ
 as_line text = text ++ 10 ∷ []

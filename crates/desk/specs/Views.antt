@@ -4,8 +4,9 @@ use Rattle.road.specs.declared.road.Road.{Road}
 use Rattle.rows.specs.declared.record.RowRecord.{RowRecord}
 use Rattle.rows.specs.declared.row.Row.{Row}
 use Rattle.rows.specs.Reading.{rows_of}
-use Rattle.plain.specs.Sheet.{fitted}
-use Rattle.series.specs.Calls.{mark_of, road_of, count_of}
+use Rattle.plain.specs.Sheet.{fitted, Plain}
+use Rattle.sheet.specs.States.{shown}
+use Rattle.series.specs.Calls.{mark_of, road_of, count_of, stands}
 use Rattle.report.specs.declared.writing.Report.{Report}
 use Rattle.desk.specs.declared.view.View.{View}
 use Rattle.desk.specs.Reporting.{has_mark}
@@ -20,7 +21,11 @@ records_on v = take (count_of v.sheet.now) v.rows.now
 abbrev pub rows_on : View → List Row
 rows_on v = rows_of v.rows.now (count_of v.sheet.now)
 
+-- The sheet as a plain sheet.
+abbrev pub shown_on : View → Plain
+shown_on v = shown (stands v.sheet.now v.rows.now)
+
 -- The report is of what the view shows, on that road.
-abbrev pub Reported : View → Road → Report → Type 0
-Reported v road report =
+abbrev pub AsReport : View → Road → Report → Type 0
+AsReport v road report =
     (report.road.now ≡ road) × (report.fitted ≡ has_mark fitted (mark_of v.sheet.now)) × (report.rows.now ≡ records_on v) × (report.limits.now ≡ v.limits.now)

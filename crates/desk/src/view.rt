@@ -2,14 +2,15 @@
 ghost use Rattle.std.specs.Prelude.{◌≡◌, List, ℕ, OnOk, length};
 ghost use Rattle.std.specs.Io.KnownBytes.{Appends};
 ghost use Rattle.plain.specs.Sheet.{fitted, check as asking};
-ghost use Rattle.sheet.specs.States.{shown, listed, Untouched, OnlyLooks};
+ghost use Rattle.sheet.specs.States.{listed, Untouched, OnlyLooks};
 ghost use Rattle.series.specs.Calls.{mark_of, stands, told};
 ghost use Rattle.wording.specs.Lines.{explained_text};
 ghost use Rattle.report.specs.Explaining.{LinesOf};
 ghost use Rattle.report.specs.Findings.{FindingsBelow};
 ghost use Rattle.desk.specs.Desk.{meaning_of};
-ghost use Rattle.desk.specs.Views.{road_on, records_on, rows_on, Reported};
-ghost use Rattle.desk.specs.Printing.{rows_text, SetOutList, Says, SaysDone, why_barred, Writes};
+ghost use Rattle.desk.specs.Views.{road_on, records_on, rows_on, shown_on, AsReport};
+ghost use Rattle.report.specs.Written.{Written};
+ghost use Rattle.desk.specs.Printing.{rows_text, SetOutList, Says, SaysDone, why_barred};
 ghost use Rattle.desk.specs.Reporting.{has_mark, SheetShown};
 
 use answers::answer::Answer;
@@ -87,7 +88,7 @@ impl<'a> View<'a> {
     {
         for (position, record) in self.records().iter().enumerate() {
             let shown = ShownRow {
-                place: position,
+                position,
                 row: record.read(),
             };
             writeln!(out, "{shown}")?;
@@ -97,7 +98,7 @@ impl<'a> View<'a> {
 
     // The setting-out list, a line for each row.
     fn write_set_out<W: Write>(&self, out: &mut W) -> io::Result<()>
-        ensures { OnOk result (Writes (SetOutList 0 (rows_on self.now)) (W.contents out.old) (W.contents out.new)) }
+        ensures { OnOk result (Written (SetOutList 0 (rows_on self.now)) (W.contents out.old) (W.contents out.new)) }
     {
         for (position, record) in self.records().iter().enumerate() {
             writeln!(out, "{}", SetOut::of(position, record.read()))?;
@@ -107,7 +108,7 @@ impl<'a> View<'a> {
 
     // What is reported of the sheet, whose road is handed in, since it has no place of its own in a sheet.
     fn report<'b>(&'b self, road: &'b Road) -> Report<'b>
-        ensures { Reported self.now road.now result }
+        ensures { AsReport self.now road.now result }
     {
         Report {
             road,
@@ -119,7 +120,7 @@ impl<'a> View<'a> {
 
     // Findings in plain words, a line each.
     fn write_findings<W: Write>(&self, out: &mut W, findings: &[Finding]) -> io::Result<()>
-        ensures { OnOk result (Writes (LinesOf (road_on self.now) self.now.limits.now (records_on self.now) explained_text findings.now) (W.contents out.old) (W.contents out.new)) }
+        ensures { OnOk result (Written (LinesOf (road_on self.now) self.now.limits.now (records_on self.now) explained_text findings.now) (W.contents out.old) (W.contents out.new)) }
     {
         let road = self.sheet.road();
         self.report(&road).write_explained(out, findings)
@@ -127,7 +128,7 @@ impl<'a> View<'a> {
 
     // The sheet as a table.
     pub(crate) fn write_table<W: Write>(&self, out: &mut W) -> io::Result<()>
-        ensures { OnOk result (Writes (SheetShown self.now.sheet.now self.now.rows.now self.now.limits.now) (W.contents out.old) (W.contents out.new)) }
+        ensures { OnOk result (Written (SheetShown self.now.sheet.now self.now.rows.now self.now.limits.now) (W.contents out.old) (W.contents out.new)) }
     {
         let road = self.sheet.road();
         self.report(&road).write_table(out)
@@ -135,7 +136,7 @@ impl<'a> View<'a> {
 
     // What stands below the table: the findings of a check, and how many they are.
     pub(crate) fn write_below<W: Write>(&self, out: &mut W, findings: &[Finding]) -> io::Result<()>
-        ensures { OnOk result (Writes (FindingsBelow (road_on self.now) self.now.limits.now (records_on self.now) findings.now) (W.contents out.old) (W.contents out.new)) }
+        ensures { OnOk result (Written (FindingsBelow (road_on self.now) self.now.limits.now (records_on self.now) findings.now) (W.contents out.old) (W.contents out.new)) }
     {
         let road = self.sheet.road();
         self.report(&road).write_findings(out, findings)
@@ -143,7 +144,7 @@ impl<'a> View<'a> {
 
     // Writes that a call was carried out.
     fn write_done<W: Write>(&self, out: &mut W, command: SheetCommand) -> io::Result<()>
-        ensures { OnOk result (Writes (SaysDone command (rows_on self.now)) (W.contents out.old) (W.contents out.new)) }
+        ensures { OnOk result (Written (SaysDone command (rows_on self.now)) (W.contents out.old) (W.contents out.new)) }
     {
         let count = self.records().len();
         match command {
@@ -176,7 +177,7 @@ impl<'a> View<'a> {
         outcome: Outcome,
         found: &[Finding],
     ) -> io::Result<()>
-        ensures { OnOk result ((t : List ℕ) × Says self.now.limits.now line command (told outcome found.now) (shown (stands self.now.sheet.now self.now.rows.now)) t × Appends (W.contents out.old) (W.contents out.new) t) }
+        ensures { OnOk result (Written (Says self.now.limits.now line command (told outcome found.now) (shown_on self.now)) (W.contents out.old) (W.contents out.new)) }
     {
         match outcome {
             Outcome::Done => self.write_done(out, command),

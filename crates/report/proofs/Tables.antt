@@ -30,24 +30,24 @@ append_both (Some a) (Some b) None xs ys p q = absurd q
 append_both (Some a) (Some b) (Some c) xs ys p q = q ∙ ap (λ l. l ++ ys) p ∙ append_assoc a xs ys
 
 -- a row more in the table
-table_more : (road : Road) (limits : LimitsInForce) (place : ℕ) (rows : List Row) (text : List ℕ) (r : Row) (last : TableRow) → TableOf road limits place rows text → Tabulates road limits (place + length rows) r last → TableOf road limits place (rows ++ r ∷ []) (text ++ as_line (table_row_text last))
-table_more road limits place [] text r last is out = (last, [], subst (λ n. Tabulates road limits n r last) (add-zero place) out, refl, ap (λ l. l ++ as_line (table_row_text last)) is ∙ sym (append-nil (as_line (table_row_text last))))
-table_more road limits place (o ∷ rows) text r last (first, rest, has, table, is) out =
-    let further : place + length (o ∷ rows) ≡ (place + 1) + length rows = omega arith in (
+table_more : (road : Road) (limits : LimitsInForce) (position : ℕ) (rows : List Row) (text : List ℕ) (r : Row) (last : TableRow) → TableOf road limits position rows text → Tabulates road limits (position + length rows) r last → TableOf road limits position (rows ++ r ∷ []) (text ++ as_line (table_row_text last))
+table_more road limits position [] text r last is out = (last, [], subst (λ n. Tabulates road limits n r last) (add-zero position) out, refl, ap (λ l. l ++ as_line (table_row_text last)) is ∙ sym (append-nil (as_line (table_row_text last))))
+table_more road limits position (o ∷ rows) text r last (first, rest, has, table, is) out =
+    let further : position + length (o ∷ rows) ≡ (position + 1) + length rows = omega arith in (
       first,
       rest ++ as_line (table_row_text last),
       has,
-      table_more road limits (place + 1) rows rest r last table (subst (λ n. Tabulates road limits n r last) further out),
+      table_more road limits (position + 1) rows rest r last table (subst (λ n. Tabulates road limits n r last) further out),
       ap (λ l. l ++ as_line (table_row_text last)) is ∙ append_assoc (as_line (table_row_text first)) rest (as_line (table_row_text last)),
     )
 
 -- the same of the rows that records stand for
 pub table_next : (road : Road) (limits : LimitsInForce) (old mid new : Option (List ℕ)) (records : List RowRecord) (i : ℕ) (d : RowRecord) (r : Row) (last : TableRow) → i < length records → r ≡ row_of (get_or records i d) → (text : List ℕ) × TableOf road limits 0 (map row_of (take i records)) text × Appends old mid text → Tabulates road limits i r last → Appends mid new (as_line (table_row_text last)) → (text : List ℕ) × TableOf road limits 0 (map row_of (take (i + 1) records)) text × Appends old new text
 table_next road limits old mid new records i d r last within is (text, table, before) has now =
-    let place : i ≡ 0 + length (map row_of (take i records)) = omega (arith, length-map (take i records) row_of, length-take-le i records (omega arith)) in
+    let position : i ≡ 0 + length (map row_of (take i records)) = omega (arith, length-map (take i records) row_of, length-take-le i records (omega arith)) in
     let rows : map row_of (take i records) ++ r ∷ [] ≡ map row_of (take (i + 1) records) = ap (λ x. map row_of (take i records) ++ x ∷ []) is ∙ sym (map_more row_of records i d within) in (
       text ++ as_line (table_row_text last),
-      subst (λ rs. TableOf road limits 0 rs (text ++ as_line (table_row_text last))) rows (table_more road limits 0 (map row_of (take i records)) text r last table (subst (λ n. Tabulates road limits n r last) place has)),
+      subst (λ rs. TableOf road limits 0 rs (text ++ as_line (table_row_text last))) rows (table_more road limits 0 (map row_of (take i records)) text r last table (subst (λ n. Tabulates road limits n r last) position has)),
       append_both old mid new text (as_line (table_row_text last)) before now,
     )
 
@@ -66,9 +66,9 @@ numbered_more number (o ∷ limits) limit =
 -- the same of the front of a list
 pub numbered_next : (old mid new : Option (List ℕ)) (limits : List ChosenLimit) (i : ℕ) (limit : ChosenLimit) → i < length limits → limit ≡ get_or limits i limit → Appends old mid (numbered_text 1 (take i limits)) → Appends mid new (32 ∷ (decimal (i + 1) ++ (32 ∷ limit_word (name_of limit)))) → Appends old new (numbered_text 1 (take (i + 1) limits))
 numbered_next old mid new limits i limit within is before now =
-    let place : i + 1 ≡ 1 + length (take i limits) = omega (arith, length-take-le i limits (omega arith)) in
+    let position : i + 1 ≡ 1 + length (take i limits) = omega (arith, length-take-le i limits (omega arith)) in
     let more : numbered_text 1 (take i limits) ++ (32 ∷ (decimal (i + 1) ++ (32 ∷ limit_word (name_of limit)))) ≡ numbered_text 1 (take (i + 1) limits) =
-    ap (λ n. numbered_text 1 (take i limits) ++ (32 ∷ (decimal n ++ (32 ∷ limit_word (name_of limit))))) place
+    ap (λ n. numbered_text 1 (take i limits) ++ (32 ∷ (decimal n ++ (32 ∷ limit_word (name_of limit))))) position
     ∙ sym (numbered_more 1 (take i limits) limit) ∙ ap (λ x. numbered_text 1 (take i limits ++ x ∷ [])) is ∙ ap (numbered_text 1) (sym (take_more limits i limit within)) in
     subst (Appends old new) more (append_both old mid new (numbered_text 1 (take i limits)) (32 ∷ (decimal (i + 1) ++ (32 ∷ limit_word (name_of limit)))) before now)
 

@@ -21,8 +21,8 @@ GovernsCurve road limits c g =
     ⊎ ((Calling road c → ⊥) × (g ≡ None))
 
 -- The length of a straight; of a curve its superelevation, the parameters of its clothoids and the limit that governs them.
-abbrev pub Tabulates : Road → LimitsInForce → (place : ℕ) → Row → TableRow → Type 0
-Tabulates road limits place (row.Straight s) t = t ≡ table.Straight place s.length
-Tabulates road limits place (row.Curve c) t =
+abbrev pub Tabulates : Road → LimitsInForce → (position : ℕ) → Row → TableRow → Type 0
+Tabulates road limits position (row.Straight s) t = t ≡ table.Straight position s.length
+Tabulates road limits position (row.Curve c) t =
     (entry : ℕ) × (exit : ℕ) × (g : Option Governing) × Parameter c.radius c.entry entry × Parameter c.radius c.exit exit × GovernsCurve road limits c g
-    × (t ≡ table.Curve place c (superelevation_of road.group c.radius) entry exit g)
+    × (t ≡ table.Curve position c (superelevation_of road.group c.radius) entry exit g)

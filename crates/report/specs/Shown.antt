@@ -22,7 +22,7 @@ governed_text (Some g) = least_column g.least ++ (codes "  " ++ (decimal g.numbe
 governed_text None = codes "         -  -"
 
 abbrev pub table_row_text : TableRow → List ℕ
-table_row_text (Straight place length) = on_the_right 4 (decimal place) ++ (codes "  straight   " ++ metres_column length)
-table_row_text (Curve place c p entry exit g) =
-    on_the_right 4 (decimal place) ++ (codes "  " ++ (kind_text c.sense ++ (codes "          " ++ (metres_column c.radius ++ (gon_column c.turn ++ (percent_column p ++ (
+table_row_text (Straight position length) = on_the_right 4 (decimal position) ++ (codes "  straight   " ++ metres_column length)
+table_row_text (Curve position c p entry exit g) =
+    on_the_right 4 (decimal position) ++ (codes "  " ++ (kind_text c.sense ++ (codes "          " ++ (metres_column c.radius ++ (gon_column c.turn ++ (percent_column p ++ (
     metres_column c.entry ++ (metres_column entry ++ (metres_column c.exit ++ (metres_column exit ++ governed_text g))))))))))

@@ -14,11 +14,11 @@ use Rattle.report.specs.Shown.{table_row_text}
 abbrev pub as_line : List ℕ → List ℕ
 as_line text = text ++ 10 ∷ []
 
--- The rows of the table, a line each; the first stands at the place.
-abbrev pub TableOf : Road → LimitsInForce → (place : ℕ) → List Row → List ℕ → Type 0
-TableOf road limits place [] text = text ≡ []
-TableOf road limits place (r ∷ rows) text =
-    (first : TableRow) × (rest : List ℕ) × Tabulates road limits place r first × TableOf road limits (place + 1) rows rest
+-- The rows of the table, a line each; the first stands at the position.
+abbrev pub TableOf : Road → LimitsInForce → (position : ℕ) → List Row → List ℕ → Type 0
+TableOf road limits position [] text = text ≡ []
+TableOf road limits position (r ∷ rows) text =
+    (first : TableRow) × (rest : List ℕ) × Tabulates road limits position r first × TableOf road limits (position + 1) rows rest
     × (text ≡ as_line (table_row_text first) ++ rest)
 
 abbrev pub column_names : List ℕ

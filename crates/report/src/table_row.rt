@@ -18,14 +18,14 @@ pub enum TableRow {
     /// A straight.
     Straight {
         /// Its number, from 0.
-        place: usize,
+        position: usize,
         /// mm, 1 to 20,000,000.
         length: u32,
     },
     /// A curve.
     Curve {
         /// Its number, from 0.
-        place: usize,
+        position: usize,
         /// Its sense, radius, turn and lengths.
         curve: Curve,
         /// Hundredths of a percent (Table 4.5).
@@ -51,16 +51,16 @@ fn governing_of(curve: &Curve, road: &Road, limits: &LimitsInForce) -> Option<Go
 
 impl TableRow {
     /// The row of that number on a road, under the limits in force. No number is refused.
-    pub fn of(place: usize, row: Row, road: &Road, limits: &LimitsInForce) -> TableRow
-        ensures { Tabulates road.now limits.now place row result }
+    pub fn of(position: usize, row: Row, road: &Road, limits: &LimitsInForce) -> TableRow
+        ensures { Tabulates road.now limits.now position row result }
     {
         match row {
             Row::Straight(straight) => TableRow::Straight {
-                place,
+                position,
                 length: straight.length,
             },
             Row::Curve(curve) => TableRow::Curve {
-                place,
+                position,
                 curve,
                 superelevation: superelevation(road.group, curve.radius),
                 entry: clothoid_parameter(curve.radius, curve.entry),
@@ -106,12 +106,12 @@ impl fmt::Display for TableRow {
 
     fn fmt<W: fmt::Write>(&self, f: &mut fmt::Formatter<W>) -> fmt::Result {
         match self {
-            TableRow::Straight { place, length } => {
+            TableRow::Straight { position, length } => {
                 let length = MetresColumn(*length);
-                write!(f, "{place:>4}  straight   {length}")
+                write!(f, "{position:>4}  straight   {length}")
             }
             TableRow::Curve {
-                place,
+                position,
                 curve,
                 superelevation,
                 entry,
@@ -129,7 +129,7 @@ impl fmt::Display for TableRow {
                 let governed = Governed(*governing);
                 write!(
                     f,
-                    "{place:>4}  {kind}          {radius}{turn}{p}{entry_length}{entry_parameter}{exit_length}{exit_parameter}{governed}"
+                    "{position:>4}  {kind}          {radius}{turn}{p}{entry_length}{entry_parameter}{exit_length}{exit_parameter}{governed}"
                 )
             }
         }

@@ -73,8 +73,8 @@ impl Report<'_> {
     fn write_rows<W: Write>(&self, out: &mut W) -> io::Result<()>
         ensures { OnOk result (Written (TableOf self.now.road.now self.now.limits.now 0 (map row_of self.now.rows.now)) (W.contents out.old) (W.contents out.new)) }
     {
-        for (place, record) in self.rows.iter().enumerate() {
-            let row = TableRow::of(place, record.read(), self.road, self.limits);
+        for (position, record) in self.rows.iter().enumerate() {
+            let row = TableRow::of(position, record.read(), self.road, self.limits);
             writeln!(out, "{row}")?;
         }
         Ok(())

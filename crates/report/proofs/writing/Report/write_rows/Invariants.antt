@@ -4,6 +4,6 @@ use Rattle.rows.specs.Reading.{row_of}
 use Rattle.report.specs.Tables.{TableOf}
 use Rattle.report.proofs.writing.Report.write_rows.Given as goal
 
-abbrev pub invariant-loop-place : goal.invariant-loop-place
-invariant-loop-place g l =
-    (text : List ℕ) × TableOf l.self.road.now l.self.limits.now 0 (map row_of (take l.place l.record-items)) text × Appends (g.W.Write.contents l.initial.out) (g.W.Write.contents l.out) text
+abbrev pub invariant-loop-position : goal.invariant-loop-position
+invariant-loop-position g l =
+    (text : List ℕ) × TableOf l.self.road.now l.self.limits.now 0 (map row_of (take l.position l.record-items)) text × Appends (g.W.Write.contents l.initial.out) (g.W.Write.contents l.out) text
