@@ -9,7 +9,7 @@ use rows::end::End;
 use std::fmt;
 
 /// What a line is answered where nothing is wrong with it: the last line of its answer, behind a list if it has one.
-#[derive(Clone, Copy)]
+#[derive(Clone, Copy, Debug, PartialEq, Eq)]
 pub enum Answer {
     /// The road is open.
     Opened(Road),

@@ -10,7 +10,7 @@ use road::refusal::Refusal;
 use std::fmt;
 
 /// A line whose command the rules refuse.
-#[derive(Clone, Copy)]
+#[derive(Clone, Copy, Debug, PartialEq, Eq)]
 pub struct RefusedLine {
     /// Why.
     pub refusal: Refusal,

@@ -6,7 +6,7 @@ use rows::row::Row;
 use std::fmt;
 
 /// A row with its position, which is no part of the row and is shown with it.
-#[derive(Clone, Copy)]
+#[derive(Clone, Copy, Debug, PartialEq, Eq)]
 pub struct ShownRow {
     /// The position of the row, counted from 0.
     pub position: usize,

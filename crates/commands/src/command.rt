@@ -8,7 +8,7 @@ use road::design::RoadDesign;
 use rows::end::End;
 
 /// What a line asks of the open sheet. Numbers are as the line has them: no range is tested, and no row need be there.
-#[derive(Clone, Copy)]
+#[derive(Clone, Copy, Debug, PartialEq, Eq)]
 pub enum SheetCommand {
     /// Adds a row.
     Add {
@@ -67,7 +67,7 @@ impl SheetCommand {
 }
 
 /// What a line says: a call of the open sheet, or one of the commands that open a road, choose limits or list what is there.
-#[derive(Clone, Copy)]
+#[derive(Clone, Copy, Debug, PartialEq, Eq)]
 pub enum Command {
     /// Opens a road, in place of the one before.
     Road(RoadDesign),

@@ -7,7 +7,7 @@ use rows::record::RowRecord;
 use rows::row::{Curve, Row, Straight};
 
 /// A curve beside a row.
-#[derive(Clone, Copy)]
+#[derive(Clone, Copy, Debug, PartialEq, Eq)]
 pub struct Neighbour {
     /// The row that it stands in, from 0.
     pub row: usize,

@@ -14,7 +14,7 @@ pub struct Clothoid {
 }
 
 /// A radius that is not one of those that may follow the neighbour's (4.5).
-#[derive(Clone, Copy)]
+#[derive(Clone, Copy, Debug, PartialEq, Eq)]
 pub struct Disagreement {
     /// The side of the curve: at the exit the radii are judged in the return sense.
     pub end: End,
@@ -27,7 +27,7 @@ pub struct Disagreement {
 }
 
 /// What decides a finding: a case for each rule, with the figures that it is about. Lengths, radii and runs in mm, turns in ten-thousandths of a gon.
-#[derive(Clone, Copy)]
+#[derive(Clone, Copy, Debug, PartialEq, Eq)]
 pub enum Reason {
     /// Rule 1 (4.4.3): a clothoid that is not admitted, and the least length that is, if there is one.
     Unadmitted {

@@ -14,7 +14,7 @@ use units::Scale;
 /// What decides a finding in plain words, its figures in the units of a scale: what stands there, and after a semicolon what its rule requires or advises.
 ///
 /// Without a reason it says that the row is not there.
-#[derive(Clone, Copy)]
+#[derive(Clone, Copy, Debug, PartialEq, Eq)]
 pub struct Sentence {
     /// What decides the finding, if there is one.
     pub reason: Option<Reason>,
