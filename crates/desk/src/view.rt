@@ -177,7 +177,7 @@ impl<'a> View<'a> {
         outcome: Outcome,
         found: &[Finding],
     ) -> io::Result<()>
-        ensures { OnOk result (Written (Says self.now.limits.now line command (told outcome found.now) (shown_on self.now)) (W.contents out.old) (W.contents out.new)) }
+        ensures { OnOk result ((t : List ℕ) × Says self.now.limits.now line command (told outcome found.now) (shown_on self.now) t × Appends (W.contents out.old) (W.contents out.new) t) }
     {
         match outcome {
             Outcome::Done => self.write_done(out, command),
