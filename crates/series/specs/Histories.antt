@@ -100,8 +100,8 @@ pub record CarriedOut {W : Type 0} (sees : W → Seen → W → Type 0) (calls :
   pub written : findings' ≡ findings_after_all trail findings
 
 -- The requests were carried out, each as the call that it asks, lent what there is of its memory.
-abbrev pub RequestsCarriedOut : {L W : Type 0} → (W → Seen → W → Type 0) → (L → Meaning) → List (Request L) → (w w' : W) (findings findings' : List Finding) (s s' : State) → Type 0
-RequestsCarriedOut sees meant requests w w' findings findings' s s' =
+abbrev pub SeriesDone : {L W : Type 0} → (W → Seen → W → Type 0) → (L → Meaning) → List (Request L) → (w w' : W) (findings findings' : List Finding) (s s' : State) → Type 0
+SeriesDone sees meant requests w w' findings findings' s s' =
     CarriedOut sees (map (lent_call meant (length s.memory) (length findings)) requests) w w' findings findings' s s'
 
 -- A sheet just opened, with its memory.

@@ -5,7 +5,7 @@ ghost use Rattle.findings.specs.declared.finding.Finding.{Finding};
 ghost use Rattle.plain.specs.Sheet.{meaning};
 ghost use Rattle.sheet.specs.States.{drafted, fitted_in, edited};
 ghost use Rattle.series.specs.Calls.{road_of, count_of, stands, told, outcome_of_check, Kept, CallMade};
-ghost use Rattle.series.specs.Histories.{opened_in, RequestsCarriedOut};
+ghost use Rattle.series.specs.Histories.{opened_in, SeriesDone};
 ghost use Rattle.series.specs.Laws.{Laws};
 
 use crate::call::{Call, Request};
@@ -81,7 +81,7 @@ impl Sheet {
         requests: &[Request<L>],
         watcher: &mut W,
     ) -> Sheet
-        ensures series { RequestsCarriedOut W.Watcher.sees (meaning L.Limit.admitted L.Limit.lawful) requests.now watcher.old watcher.new findings.old findings.new (stands self rows.old) (stands result rows.new) }
+        ensures series { SeriesDone W.Watcher.sees (meaning L.Limit.admitted L.Limit.lawful) requests.now watcher.old watcher.new findings.old findings.new (stands self rows.old) (stands result rows.new) }
         ensures laws { Laws }
     {
         let mut sheet = self;

@@ -5,9 +5,9 @@ use plain::NewRow;
 use road::refusal::Refusal;
 use rows::end::End;
 use rows::record::RowRecord;
-use series::outcome::Outcome;
-use series::call::Call;
 use series::any_sheet::Sheet;
+use series::call::Call;
+use series::outcome::Outcome;
 use std::process::Abort;
 use std::test::Fail;
 

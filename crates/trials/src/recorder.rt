@@ -20,7 +20,7 @@ pub(crate) struct Recorder {
 
 impl Watcher for Recorder {
     // Where there is a slot, it gets the outcome.
-    ghost sees = { λ before seen after. before.count < 9 → (outcome : Outcome) × ToldAs outcome seen.answer × (after.outcomes ≡ slice_set before.outcomes before.count outcome) × (after.count ≡ before.count + 1) };
+    ghost sees = { λ w seen w'. w.count < 9 → (outcome : Outcome) × ToldAs outcome seen.answer × (w'.outcomes ≡ slice_set w.outcomes w.count outcome) × (w'.count ≡ w.count + 1) };
 
     fn see(&mut self, _sheet: &Sheet, _rows: &[RowRecord], _found: &[Finding], outcome: Outcome) {
         if self.count < CALLS {

@@ -7,9 +7,9 @@ use norma::compulsory::{COMPULSORY, CompulsoryPile};
 use road::refusal::Refusal;
 use rows::end::End;
 use rows::record::RowRecord;
-use series::outcome::Outcome;
-use series::call::{Call, Request};
 use series::any_sheet::Sheet;
+use series::call::{Call, Request};
+use series::outcome::Outcome;
 use std::test::Fail;
 
 // Every limit of a series has one type.
