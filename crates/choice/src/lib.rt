@@ -25,7 +25,7 @@ use norma::transition::TransitionLimit;
 /// A limit that is chosen by its name.
 #[derive(Drop)]
 pub enum ChosenLimit {
-    /// the change of the centripetal acceleration (4.4.3.1)
+    /// the change of the centrifugal acceleration (4.4.3.1)
     Comfort,
     /// the transition of the superelevation (4.4.3.2)
     Transition,

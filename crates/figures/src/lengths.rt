@@ -1,5 +1,6 @@
 // The lengths of clothoids: rules 2, 5 and 6.
 ghost use Rattle.std.specs.Prelude.{◌≡◌, Decides};
+ghost use Rattle.limits.specs.Least.{Smallest};
 ghost use Rattle.figures.specs.Lengths.{WithinLongest, Harmonious, ArcBeside, LeavesArc, Greatest, Exactly, longest_of, least_beside, longest_beside, longest_pair_of};
 ghost use Rattle.figures.specs.Tests.{exceeds, harmonious, arcless};
 
@@ -16,9 +17,9 @@ pub fn longest_length(least: u32) -> u64
     3 * least as u64 / 2
 }
 
-/// Rule 2 (4.4.4): whether a clothoid is longer than that.
+/// Rule 2 (4.4.4): whether a clothoid of that length is longer than the longest, by the least length that is admitted.
 #[inline(always)]
-pub fn is_too_long(least: u32, length: u32) -> bool
+pub fn exceeds_longest(least: u32, length: u32) -> bool
     ensures value { result ≡ exceeds least length }
     ensures decides { Decides result (WithinLongest least length → ⊥) }
 {
@@ -37,7 +38,8 @@ pub struct LengthRange {
 /// Rule 5 (the office's own): the least length in harmony with a neighbour of that length, two thirds of it, rounded up.
 #[inline(always)]
 pub fn least_beside(length: u32) -> u32
-    ensures { result ≡ least_beside length }
+    ensures value { result ≡ least_beside length }
+    ensures least { Smallest (Harmonious length) result }
 {
     ((2 * length as u64 + 2) / 3) as u32
 }
@@ -45,7 +47,8 @@ pub fn least_beside(length: u32) -> u32
 /// Rule 5 (the office's own): the longest length in harmony with a neighbour of that length, one and a half times it, rounded down.
 #[inline(always)]
 pub fn longest_beside(length: u32) -> u64
-    ensures { result ≡ longest_beside length }
+    ensures value { result ≡ longest_beside length }
+    ensures greatest { Greatest (Harmonious length) result }
 {
     3 * length as u64 / 2
 }

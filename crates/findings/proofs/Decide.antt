@@ -35,7 +35,7 @@ decides_never = (λ e. absurd (false≢true e), λ h. absurd h)
 decides_true : (b : Bool) → Decides b (b ≡ true)
 decides_true b = (λ e. e, λ e. e)
 
--- A test on the nearest curve and the run up to it, of what lies behind a place or ahead of it.
+-- A test on the nearest curve and the run up to it, of what lies behind a position or ahead of it.
 module _ (test : Option Curve → ℕ → Bool) (Fact : Curve → ℕ → Type 0) (at_none : (n : ℕ) → test None n ≡ false)
     (at_some : (c : Curve) (n : ℕ) → Decides (test (Some c) n) (Fact c n)) where
   behind_by : (before : List Row) (o : Option Curve) → (walked nothing before).curve ≡ o → test o (walked nothing before).run ≡ true
@@ -69,7 +69,7 @@ module _ (test : Option Curve → ℕ → Bool) (Fact : Curve → ℕ → Type 0
         rw (q, ahead_has 0 ss d later, ← same) ((at_some d (total ss)).1 fact),
   )
 
--- A test on the curve just behind a place.
+-- A test on the curve just behind a position.
 module _ (test : Option Curve → Bool) (Fact : Curve → Type 0) (at_none : test None ≡ false) (at_some : (b : Curve) → Decides (test (Some b)) (Fact b)) where
   just_by : (before : List Row) (o : Option Curve) → (walked nothing before).curve ≡ o → (begins (walked nothing before) && test o) ≡ true
       → (b : Curve) × EndWith before b [] × Fact b

@@ -50,9 +50,9 @@ side_small Whole = lit< tt
 side_small Entry = lit< tt
 side_small Exit = lit< tt
 
-rank_sooner : (place : ℕ) (k j : Kind) → rank k < rank j → Sooner (finding_of place k) (finding_of place j)
+rank_sooner : (position : ℕ) (k j : Kind) → rank k < rank j → Sooner (finding_of position k) (finding_of position j)
 unfolding rank
-rank_sooner place k j h =
+rank_sooner position k j h =
     let a = side_small (side_of k) in
     let b = side_small (side_of j) in
     elim (cases_order (rule_number (rule_of k)) (rule_number (rule_of j))) [
@@ -103,58 +103,58 @@ one_ordered true f = (λ g m. absurd m, tt)
 one_ordered false f = tt
 
 module _ (road : Road) where
-  among_gathered : (place : ℕ) (at : Context) (n : ℕ) (ks : List Kind) (f : Finding) → Above n ks → Among f (gathered road place at ks)
-      → (k : Kind) × (f ≡ finding_of place k) × (breaks road k at ≡ true) × (n < rank k)
-  among_gathered place at n [] f a m = absurd m
-  among_gathered place at n (k ∷ ks) f a m =
-      elim (among_parts f (given (breaks road k at) (finding_of place k)) (gathered road place at ks) m) [
-        | inl i ↦ let (e, b) = among_given (breaks road k at) f (finding_of place k) i in (k, e, b, a.0)
-        | inr i ↦ let (j, e, b, l) = among_gathered place at (rank k) ks f a.1 i in let lt = a.0 in (j, e, b, omega arith)
+  among_gathered : (position : ℕ) (at : Context) (n : ℕ) (ks : List Kind) (f : Finding) → Above n ks → Among f (gathered road position at ks)
+      → (k : Kind) × (f ≡ finding_of position k) × (breaks road k at ≡ true) × (n < rank k)
+  among_gathered position at n [] f a m = absurd m
+  among_gathered position at n (k ∷ ks) f a m =
+      elim (among_parts f (given (breaks road k at) (finding_of position k)) (gathered road position at ks) m) [
+        | inl i ↦ let (e, b) = among_given (breaks road k at) f (finding_of position k) i in (k, e, b, a.0)
+        | inr i ↦ let (j, e, b, l) = among_gathered position at (rank k) ks f a.1 i in let lt = a.0 in (j, e, b, omega arith)
       ]
 
-  gathered_among : (place : ℕ) (at : Context) (k : Kind) (ks : List Kind) → Listing k ks → breaks road k at ≡ true
-      → Among (finding_of place k) (gathered road place at ks)
+  gathered_among : (position : ℕ) (at : Context) (k : Kind) (ks : List Kind) → Listing k ks → breaks road k at ≡ true
+      → Among (finding_of position k) (gathered road position at ks)
   unfolding Listing
-  gathered_among place at k [] m e = absurd m
-  gathered_among place at k (j ∷ ks) (inl i) e =
-      let h : Among (finding_of place k) (given (breaks road j at) (finding_of place j)) =
-      rw (← i) (given_among (breaks road k at) (finding_of place k) e) in
-      among_left (finding_of place k) (given (breaks road j at) (finding_of place j)) (gathered road place at ks) h
-  gathered_among place at k (j ∷ ks) (inr m) e =
-      among_right (finding_of place k) (given (breaks road j at) (finding_of place j)) (gathered road place at ks) (gathered_among place at k ks m e)
+  gathered_among position at k [] m e = absurd m
+  gathered_among position at k (j ∷ ks) (inl i) e =
+      let h : Among (finding_of position k) (given (breaks road j at) (finding_of position j)) =
+      rw (← i) (given_among (breaks road k at) (finding_of position k) e) in
+      among_left (finding_of position k) (given (breaks road j at) (finding_of position j)) (gathered road position at ks) h
+  gathered_among position at k (j ∷ ks) (inr m) e =
+      among_right (finding_of position k) (given (breaks road j at) (finding_of position j)) (gathered road position at ks) (gathered_among position at k ks m e)
 
-  gathered_ordered : (place : ℕ) (at : Context) (n : ℕ) (ks : List Kind) → Above n ks → Ordered (gathered road place at ks)
-  gathered_ordered place at n [] a = tt
-  gathered_ordered place at n (k ∷ ks) a =
-      ordered_append (given (breaks road k at) (finding_of place k)) (gathered road place at ks) (one_ordered (breaks road k at) (finding_of place k))
-      (gathered_ordered place at (rank k) ks a.1)
+  gathered_ordered : (position : ℕ) (at : Context) (n : ℕ) (ks : List Kind) → Above n ks → Ordered (gathered road position at ks)
+  gathered_ordered position at n [] a = tt
+  gathered_ordered position at n (k ∷ ks) a =
+      ordered_append (given (breaks road k at) (finding_of position k)) (gathered road position at ks) (one_ordered (breaks road k at) (finding_of position k))
+      (gathered_ordered position at (rank k) ks a.1)
       (λ f g i j.
-      let (e, b) = among_given (breaks road k at) f (finding_of place k) i in
-      let (m, q, t, l) = among_gathered place at (rank k) ks g a.1 j in
-      rw (e, q) (rank_sooner place k m l))
+      let (e, b) = among_given (breaks road k at) f (finding_of position k) i in
+      let (m, q, t, l) = among_gathered position at (rank k) ks g a.1 j in
+      rw (e, q) (rank_sooner position k m l))
 
 -- The findings of all rows.
 module _ (road : Road) (admission : Admission) where
-  record Seen (place : ℕ) (behind : Flank) (rows : List Row) (f : Finding) : Type 0 where
+  record Seen (position : ℕ) (behind : Flank) (rows : List Row) (f : Finding) : Type 0 where
     before : List Row
     this : Row
     after : List Row
     reads : rows ≡ before ++ this ∷ after
     kind : Kind
-    is : f ≡ finding_of (place + length before) kind
+    is : f ≡ finding_of (position + length before) kind
     broken : breaks road kind (context_of road admission (walked behind before) this after) ≡ true
 
-  among_listed : (place : ℕ) (behind : Flank) (rows : List Row) (f : Finding) → Among f (listed road admission place behind rows) → Seen place behind rows f
-  among_listed place behind [] f m = absurd m
-  among_listed place behind (r ∷ rows) f m =
-      elim (among_parts f (gathered road place (context_of road admission behind r rows) kinds) (listed road admission (place + 1) (past behind r) rows) m) [
+  among_listed : (position : ℕ) (behind : Flank) (rows : List Row) (f : Finding) → Among f (listed road admission position behind rows) → Seen position behind rows f
+  among_listed position behind [] f m = absurd m
+  among_listed position behind (r ∷ rows) f m =
+      elim (among_parts f (gathered road position (context_of road admission behind r rows) kinds) (listed road admission (position + 1) (past behind r) rows) m) [
         | inl i ↦
-            let (k, e, b, l) = among_gathered road place (context_of road admission behind r rows) 0 kinds f kinds_above i in
-            let z : place ≡ place + 0 = omega arith in
+            let (k, e, b, l) = among_gathered road position (context_of road admission behind r rows) 0 kinds f kinds_above i in
+            let z : position ≡ position + 0 = omega arith in
             record { before = []; this = r; after = rows; reads = refl; kind = k; is = e ∙ ap (λ (n : ℕ). finding_of n k) z; broken = b }
         | inr i ↦
-            let s = among_listed (place + 1) (past behind r) rows f i in
-            let z : place + 1 + length s.before ≡ place + suc (length s.before) = omega arith in
+            let s = among_listed (position + 1) (past behind r) rows f i in
+            let z : position + 1 + length s.before ≡ position + suc (length s.before) = omega arith in
             record {
               before = r ∷ s.before;
               this = s.this;
@@ -166,30 +166,30 @@ module _ (road : Road) (admission : Admission) where
             }
       ]
 
-  listed_among : (place : ℕ) (behind : Flank) (before : List Row) (this : Row) (after : List Row) (k : Kind)
+  listed_among : (position : ℕ) (behind : Flank) (before : List Row) (this : Row) (after : List Row) (k : Kind)
       → breaks road k (context_of road admission (walked behind before) this after) ≡ true
-      → Among (finding_of (place + length before) k) (listed road admission place behind (before ++ this ∷ after))
-  listed_among place behind [] this after k e =
-      let z : place ≡ place + 0 = omega arith in
-      subst (λ (n : ℕ). Among (finding_of n k) (listed road admission place behind (this ∷ after))) z
-      (among_left (finding_of place k) (gathered road place (context_of road admission behind this after) kinds) (listed road admission (place + 1) (past behind this) after)
-      (gathered_among road place (context_of road admission behind this after) k kinds (all_kinds k) e))
-  listed_among place behind (r ∷ before) this after k e =
-      let z : place + 1 + length before ≡ place + suc (length before) = omega arith in
-      subst (λ (n : ℕ). Among (finding_of n k) (listed road admission place behind (r ∷ before ++ this ∷ after))) z
-      (among_right (finding_of (place + 1 + length before) k) (gathered road place (context_of road admission behind r (before ++ this ∷ after)) kinds)
-      (listed road admission (place + 1) (past behind r) (before ++ this ∷ after)) (listed_among (place + 1) (past behind r) before this after k e))
+      → Among (finding_of (position + length before) k) (listed road admission position behind (before ++ this ∷ after))
+  listed_among position behind [] this after k e =
+      let z : position ≡ position + 0 = omega arith in
+      subst (λ (n : ℕ). Among (finding_of n k) (listed road admission position behind (this ∷ after))) z
+      (among_left (finding_of position k) (gathered road position (context_of road admission behind this after) kinds) (listed road admission (position + 1) (past behind this) after)
+      (gathered_among road position (context_of road admission behind this after) k kinds (all_kinds k) e))
+  listed_among position behind (r ∷ before) this after k e =
+      let z : position + 1 + length before ≡ position + suc (length before) = omega arith in
+      subst (λ (n : ℕ). Among (finding_of n k) (listed road admission position behind (r ∷ before ++ this ∷ after))) z
+      (among_right (finding_of (position + 1 + length before) k) (gathered road position (context_of road admission behind r (before ++ this ∷ after)) kinds)
+      (listed road admission (position + 1) (past behind r) (before ++ this ∷ after)) (listed_among (position + 1) (past behind r) before this after k e))
 
-  listed_ordered : (place : ℕ) (behind : Flank) (rows : List Row) → Ordered (listed road admission place behind rows)
-  listed_ordered place behind [] = tt
-  listed_ordered place behind (r ∷ rows) =
-      ordered_append (gathered road place (context_of road admission behind r rows) kinds) (listed road admission (place + 1) (past behind r) rows)
-      (gathered_ordered road place (context_of road admission behind r rows) 0 kinds kinds_above) (listed_ordered (place + 1) (past behind r) rows)
+  listed_ordered : (position : ℕ) (behind : Flank) (rows : List Row) → Ordered (listed road admission position behind rows)
+  listed_ordered position behind [] = tt
+  listed_ordered position behind (r ∷ rows) =
+      ordered_append (gathered road position (context_of road admission behind r rows) kinds) (listed road admission (position + 1) (past behind r) rows)
+      (gathered_ordered road position (context_of road admission behind r rows) 0 kinds kinds_above) (listed_ordered (position + 1) (past behind r) rows)
       (λ f g i j.
-      let (k, e, b, l) = among_gathered road place (context_of road admission behind r rows) 0 kinds f kinds_above i in
-      let s = among_listed (place + 1) (past behind r) rows g j in
-      let x : f.row ≡ place = ap (λ (h : Finding). h.row) e in
-      let y : g.row ≡ place + 1 + length s.before = ap (λ (h : Finding). h.row) s.is in
+      let (k, e, b, l) = among_gathered road position (context_of road admission behind r rows) 0 kinds f kinds_above i in
+      let s = among_listed (position + 1) (past behind r) rows g j in
+      let x : f.row ≡ position = ap (λ (h : Finding). h.row) e in
+      let y : g.row ≡ position + 1 + length s.before = ap (λ (h : Finding). h.row) s.is in
       inl (omega (arith, x, y)))
 
   pub listed_is : ((place : Place) → UpToLongest (admission place)) → (rows : List Row) → FindingsOf road admission rows (listed road admission 0 nothing rows)

@@ -29,7 +29,7 @@ abbrev pub past : Flank → Row → Flank
 past behind (row.Straight s) = record { curve = behind.curve; run = behind.run + s.length }
 past behind (row.Curve c) = record { curve = Some c; run = 0 }
 
--- What lies ahead of a place, after straights of that length.
+-- What lies ahead of a position, after straights of that length.
 abbrev pub reached : ℕ → List Row → Flank
 reached run [] = record { curve = None; run = run }
 reached run (row.Straight s ∷ rows) = reached (run + s.length) rows
@@ -173,8 +173,8 @@ given false f = []
 
 -- The findings of one row, of some kinds.
 abbrev pub gathered : Road → ℕ → Context → List Kind → List Finding
-gathered road place at [] = []
-gathered road place at (k ∷ ks) = given (breaks road k at) (finding_of place k) ++ gathered road place at ks
+gathered road position at [] = []
+gathered road position at (k ∷ ks) = given (breaks road k at) (finding_of position k) ++ gathered road position at ks
 
 -- How many those are.
 abbrev pub counted : Road → Context → List Kind → ℕ
@@ -185,11 +185,11 @@ abbrev pub contexts : Road → Admission → Flank → List Row → List Context
 contexts road admission behind [] = []
 contexts road admission behind (r ∷ rows) = context_of road admission behind r rows ∷ contexts road admission (past behind r) rows
 
--- The findings of those rows, the first of them at a place.
+-- The findings of those rows, the first of them at a position.
 abbrev pub gathered_from : Road → ℕ → List Context → List Finding
-gathered_from road place [] = []
-gathered_from road place (at ∷ ats) = gathered road place at kinds ++ gathered_from road (place + 1) ats
+gathered_from road position [] = []
+gathered_from road position (at ∷ ats) = gathered road position at kinds ++ gathered_from road (position + 1) ats
 
--- The findings of the rows from a place on, after what lies behind it.
+-- The findings of the rows from a position on, after what lies behind it.
 abbrev pub listed : Road → Admission → ℕ → Flank → List Row → List Finding
-listed road admission place behind rows = gathered_from road place (contexts road admission behind rows)
+listed road admission position behind rows = gathered_from road position (contexts road admission behind rows)

@@ -42,15 +42,15 @@ impl Context {
     fn report_kind(
         &self,
         road: &Road,
-        place: usize,
+        position: usize,
         kind: Kind,
         findings: &mut Roll<'_, Finding>,
     ) -> Result<(), RollRefusal>
         ensures same { SameLoan findings.old findings.new }
-        ensures report { Reported findings.old findings.new (given (breaks road.now kind self.now) (finding_of place kind)) result }
+        ensures report { Reported findings.old findings.new (given (breaks road.now kind self.now) (finding_of position kind)) result }
     {
         if self.breaks(road, kind) {
-            findings.push(kind.finding(place))
+            findings.push(kind.finding(position))
         } else {
             Ok(())
         }
@@ -61,21 +61,21 @@ impl Context {
     fn report_clothoids(
         &self,
         road: &Road,
-        place: usize,
+        position: usize,
         findings: &mut Roll<'_, Finding>,
     ) -> Result<(), RollRefusal>
         ensures same { SameLoan findings.old findings.new }
-        ensures report { Reported findings.old findings.new (gathered road.now place self.now clothoid_kinds) result }
+        ensures report { Reported findings.old findings.new (gathered road.now position self.now clothoid_kinds) result }
     {
-        self.report_kind(road, place, Kind::UnadmittedEntry, findings)?;
-        self.report_kind(road, place, Kind::UnadmittedExit, findings)?;
-        self.report_kind(road, place, Kind::LongEntry, findings)?;
-        self.report_kind(road, place, Kind::LongExit, findings)?;
-        self.report_kind(road, place, Kind::UncalledEntry, findings)?;
-        self.report_kind(road, place, Kind::UncalledExit, findings)?;
-        self.report_kind(road, place, Kind::Unequal, findings)?;
-        self.report_kind(road, place, Kind::Disharmony, findings)?;
-        self.report_kind(road, place, Kind::NoArc, findings)
+        self.report_kind(road, position, Kind::UnadmittedEntry, findings)?;
+        self.report_kind(road, position, Kind::UnadmittedExit, findings)?;
+        self.report_kind(road, position, Kind::LongEntry, findings)?;
+        self.report_kind(road, position, Kind::LongExit, findings)?;
+        self.report_kind(road, position, Kind::UncalledEntry, findings)?;
+        self.report_kind(road, position, Kind::UncalledExit, findings)?;
+        self.report_kind(road, position, Kind::Unequal, findings)?;
+        self.report_kind(road, position, Kind::Disharmony, findings)?;
+        self.report_kind(road, position, Kind::NoArc, findings)
     }
 
     // The findings by the other rules.
@@ -83,33 +83,33 @@ impl Context {
     fn report_others(
         &self,
         road: &Road,
-        place: usize,
+        position: usize,
         findings: &mut Roll<'_, Finding>,
     ) -> Result<(), RollRefusal>
         ensures same { SameLoan findings.old findings.new }
-        ensures report { Reported findings.old findings.new (gathered road.now place self.now other_kinds) result }
+        ensures report { Reported findings.old findings.new (gathered road.now position self.now other_kinds) result }
     {
-        self.report_kind(road, place, Kind::TightRadius, findings)?;
-        self.report_kind(road, place, Kind::NextRadius, findings)?;
-        self.report_kind(road, place, Kind::ReturnRadius, findings)?;
-        self.report_kind(road, place, Kind::SmallTurn, findings)?;
-        self.report_kind(road, place, Kind::ShortRun, findings)?;
-        self.report_kind(road, place, Kind::LongRun, findings)?;
-        self.report_kind(road, place, Kind::SlightTurn, findings)
+        self.report_kind(road, position, Kind::TightRadius, findings)?;
+        self.report_kind(road, position, Kind::NextRadius, findings)?;
+        self.report_kind(road, position, Kind::ReturnRadius, findings)?;
+        self.report_kind(road, position, Kind::SmallTurn, findings)?;
+        self.report_kind(road, position, Kind::ShortRun, findings)?;
+        self.report_kind(road, position, Kind::LongRun, findings)?;
+        self.report_kind(road, position, Kind::SlightTurn, findings)
     }
 
     // The findings of the row.
     fn report(
         &self,
         road: &Road,
-        place: usize,
+        position: usize,
         findings: &mut Roll<'_, Finding>,
     ) -> Result<(), RollRefusal>
         ensures same { SameLoan findings.old findings.new }
-        ensures report { Reported findings.old findings.new (gathered road.now place self.now kinds) result }
+        ensures report { Reported findings.old findings.new (gathered road.now position self.now kinds) result }
     {
-        self.report_clothoids(road, place, findings)?;
-        self.report_others(road, place, findings)
+        self.report_clothoids(road, position, findings)?;
+        self.report_others(road, position, findings)
     }
 }
 
@@ -148,8 +148,8 @@ impl<'a, L: Limit> Alignment<'a, L> {
         ensures same { SameLoan findings.old findings.new }
         ensures report { Reported findings.old findings.new (all_findings L.Limit.admitted self.now) result }
     {
-        for (place, at) in self.walk().enumerate() {
-            at.report(self.road, place, findings)?;
+        for (position, at) in self.walk().enumerate() {
+            at.report(self.road, position, findings)?;
         }
         Ok(())
     }

@@ -5,7 +5,7 @@ ghost use Rattle.findings.specs.Walk.{unadmitted, is_too_long, uncalled_for, une
 
 use crate::kind::Kind;
 use crate::walk::{Clothoids, Context, Flank};
-use figures::{LEAST_TURN, lengths, radii, runs};
+use figures::{ADVISED_TURN, lengths, radii, runs};
 use road::road::Road;
 use rows::row::{Curve, Row, Straight};
 
@@ -25,7 +25,7 @@ fn is_too_long(clothoids: Clothoids, length: u32) -> bool
     ensures { result ≡ is_too_long clothoids length }
 {
     match clothoids {
-        Clothoids::Called(Some(least)) => lengths::is_too_long(least, length),
+        Clothoids::Called(Some(least)) => lengths::exceeds_longest(least, length),
         _ => false,
     }
 }
@@ -121,7 +121,7 @@ impl Context {
             Kind::NextRadius => radius_strays(road, self.behind, curve),
             Kind::ReturnRadius => road.both_senses && radius_strays(road, self.ahead, curve),
             Kind::SmallTurn => radii::is_cramped(curve),
-            Kind::SlightTurn => curve.turn < LEAST_TURN,
+            Kind::SlightTurn => curve.turn < ADVISED_TURN,
             Kind::ShortRun | Kind::LongRun => false,
         }
     }

@@ -7,7 +7,7 @@ ghost use Rattle.limit_names.specs.Names.{ALimit, limit_word};
 
 use std::fmt;
 
-/// The name of a limit: four of the Norma's compulsory ones, its advised one, and a client's own.
+/// The name of a limit: the four that the Norma makes compulsory, the one that it advises, and a client's own.
 #[derive(Clone, Copy, PartialEq, Eq, Debug)]
 pub enum LimitName {
     /// The limit of comfort, 4.4.3.1.

@@ -5,20 +5,20 @@ ghost use Rattle.limits.specs.Places.{place_grounds, NoPlace};
 
 use road::range::OutOfRange;
 
-/// The least radius of a curve, mm. The office's own.
-pub const LEAST_RADIUS: u32 = 1_000;
+/// The radius of the tightest curve that a row may have, mm. The office's own; a road asks for more.
+pub const TIGHTEST_RADIUS: u32 = 1_000;
 
-/// The greatest radius of a curve, mm. The office's own.
-pub const GREATEST_RADIUS: u32 = 10_000_000;
+/// The radius of the widest curve that a row may have, mm. The office's own.
+pub const WIDEST_RADIUS: u32 = 10_000_000;
 
-/// The greatest turn of a curve, ten-thousandths of a gon: 200 gon, half a circle. The least is 1. The office's own.
+/// The greatest turn that a row may have, ten-thousandths of a gon: 200 gon, half a circle; a row may turn by 1 and more. The office's own.
 pub const GREATEST_TURN: u32 = 2_000_000;
 
 /// Whether the radius (mm) and the turn (ten-thousandths of a gon) of a curve are in their ranges, or the first of the two that is not.
 pub fn check_curve(radius: u32, turn: u32) -> Result<(), OutOfRange>
     ensures { MatchResult result (λ _. Clear (place_grounds radius turn)) (NoPlace radius turn) }
 {
-    if !(LEAST_RADIUS..=GREATEST_RADIUS).contains(&radius) {
+    if !(TIGHTEST_RADIUS..=WIDEST_RADIUS).contains(&radius) {
         return Err(OutOfRange::Radius);
     }
     if !(1..=GREATEST_TURN).contains(&turn) {

@@ -16,7 +16,7 @@ loop-row-preserved c =
     let inv = c.loop-row.invariant in
     record {
       short =
-          rw c.least_beside-least_exit.ensures
+          rw c.least_beside-least_exit.ensures.value
           (beside_short c.raised-lengths.result.entry
           (raised_short c.args.road.now any c.loop-row.least_exit c.read.result c.raised-lengths.result (c.raised-lengths.ensures any) inv.short).0);
       same = same_more (c.loop-row.row - 1) _ c.set_lengths.new.stored _ c.loop-row.records c.args.records.now refl c.set_lengths.ensures.same inv.same;
@@ -24,7 +24,7 @@ loop-row-preserved c =
           λ admission.
           push_more c.args.road.now admission c.loop-row.row (c.loop-row.row - 1) c.loop-row.least_exit c.least_beside-least_exit.result c.raised-lengths.result
           c.read.result _ c.set_lengths.new.stored _ c.loop-row.records c.args.records.now (omega arith) (omega arith) refl c.read.ensures
-          (c.raised-lengths.ensures admission) c.least_beside-least_exit.ensures c.set_lengths.ensures.read inv.same (inv.raised admission);
+          (c.raised-lengths.ensures admission) c.least_beside-least_exit.ensures.value c.set_lengths.ensures.read inv.same (inv.raised admission);
     }
 
 pub returns-clause-lengths : goal.returns-clause-lengths

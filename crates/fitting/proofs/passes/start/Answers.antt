@@ -25,14 +25,14 @@ loop-row-preserved g c =
     let first = c.first-lengths.ensures in
     record {
       short =
-          rw c.least_beside-least_entry.ensures
+          rw c.least_beside-least_entry.ensures.value
           (beside_short c.first-lengths.result.exit
           (started_short road admission c.loop-row.least_entry row (demand road admission row) c.first-lengths.result refl first inv.short).1);
       same = same_more c.loop-row.row _ c.set_lengths.new.stored _ c.loop-row.records c.args.records.now refl c.set_lengths.ensures.same inv.same;
       written =
           start_more road admission c.loop-row.row c.loop-row.least_entry c.least_beside-least_entry.result c.first-lengths.result row
           (demand road admission row) _ c.set_lengths.new.stored _ c.loop-row.records c.args.records.now _ (omega arith) refl c.read.ensures refl first
-          (asks_is road admission c.loop-row.least_entry c.least_beside-least_entry.result row c.first-lengths.result first c.least_beside-least_entry.ensures)
+          (asks_is road admission c.loop-row.least_entry c.least_beside-least_entry.result row c.first-lengths.result first c.least_beside-least_entry.ensures.value)
           c.set_lengths.ensures.read inv.same inv.written;
     }
 
