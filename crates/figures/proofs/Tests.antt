@@ -1,10 +1,10 @@
 -- What the tests decide.
-use Rattle.std.proofs.Common.{◌≡◌, ℕ, ◌+◌, ◌-◌, ◌*◌, ◌<◌, ◌≤◌, leb, ltb, Decides, arith}
+use Rattle.std.proofs.Common.{ℕ, ◌+◌, ◌-◌, ◌*◌, ◌<◌, ◌≤◌, leb, ltb, Decides, arith}
 use Rattle.std.proofs.lemmas.Bool.{leb-true, ltb-true, le-leb, lt-ltb}
 use Rattle.std.proofs.lemmas.Bool.Decides.{Decides-and, Decides-ltb}
 use Rattle.rows.specs.declared.row.Curve.{Curve}
 use Rattle.figures.specs.Lengths.{WithinLongest, Harmonious, LeavesArc}
-use Rattle.figures.specs.Radii.{WideEnough, Cramped}
+use Rattle.figures.specs.Radii.{Cramped}
 use Rattle.figures.specs.Tests.{exceeds, harmonious, arcless, cramped}
 
 pub decides_leb : (a b : ℕ) → Decides (leb a b) (a ≤ b)

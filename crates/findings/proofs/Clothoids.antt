@@ -1,6 +1,5 @@
 -- What the clothoids of a row are held to.
-use Rattle.std.proofs.Common.{◌≡◌, ℕ, ◌≤◌, Bool, true, ltb, leb, Decides, Option, ap, ◌∙◌}
-use Rattle.std.proofs.lemmas.Bool.{le-leb, leb-true}
+use Rattle.std.proofs.Common.{◌≡◌, ℕ, Bool, true, ltb, leb, Decides, Option, ap, ◌∙◌}
 use Rattle.std.proofs.lemmas.Bool.Decides.{same_from_decides, Decides-and, Decides-ltb}
 use Rattle.limits.specs.Admission.{In, UpToLongest}
 use Rattle.limits.specs.Least.{LeastOf}

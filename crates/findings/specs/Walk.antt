@@ -1,5 +1,5 @@
 -- The findings, computed row by row. Only private contracts cite this; proofs/ tie it to the rules.
-use Rattle.std.specs.Prelude.{ℕ, ◌+◌, ◌-◌, ◌*◌, Bool, true, false, cond, not, ◌&&◌, List, [], ◌∷◌, ◌++◌, Some, None, Option, ◌==◌, nat_le, nat_lt}
+use Rattle.std.specs.Prelude.{ℕ, ◌+◌, Bool, true, false, cond, not, ◌&&◌, List, [], ◌∷◌, ◌++◌, Some, None, Option, ◌==◌, nat_le, nat_lt}
 use Rattle.std.specs.List.{count_by}
 use Rattle.road.specs.declared.road.Road.{Road}
 use Rattle.rows.specs.declared.row.Curve.{Curve}
