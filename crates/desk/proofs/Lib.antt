@@ -1,3 +1,4 @@
 pub mod Calls
+pub mod Labels
 pub mod Prints
 pub mod Reports
