@@ -7,7 +7,7 @@ use roots::clothoid_parameter;
 use rows::row::Row;
 use std::fmt;
 
-/// What is set out of a row. Lengths and parameters are in mm, and places are counted from 0.
+/// What is set out of a row. Lengths and parameters are in mm, and positions are counted from 0.
 #[derive(Clone, Copy, PartialEq, Eq, Debug)]
 pub enum SetOut {
     /// A straight.

@@ -2,6 +2,7 @@
 use commands::name::Name;
 use std::fmt;
 
+/// How the program is called.
 pub const USAGE: &str = "usage: clothoid [--stop] [FILE]";
 
 /// The commands, each with what it does and an example, and what holds for all of them.

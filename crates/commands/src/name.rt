@@ -7,18 +7,31 @@ use std::fmt;
 /// The name of a command.
 #[derive(Clone, Copy, PartialEq, Eq, Debug)]
 pub enum Name {
+    /// Opens a road.
     Road,
+    /// Asks what a curve has on the road.
     Label,
+    /// Adds a straight.
     Straight,
+    /// Adds a curve.
     Curve,
+    /// Takes a row out.
     Remove,
+    /// Sets the lengths of a curve by hand.
     Set,
+    /// Lists the rows.
     Rows,
+    /// Shows the sheet as a table, with its findings.
     Report,
+    /// Chooses the limits.
     Limit,
+    /// Lists the findings.
     Check,
+    /// Gives the curves their least lengths.
     Fit,
+    /// Asks for a parameter.
     Parameter,
+    /// Makes a draft of a fitted sheet.
     Reopen,
 }
 

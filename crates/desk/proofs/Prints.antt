@@ -9,7 +9,8 @@ use Rattle.answers.specs.declared.set_out.SetOut.{SetOut}
 use Rattle.answers.specs.SetOut.{SetsOut}
 use Rattle.report.proofs.Tables.{append_both}
 use Rattle.answers.specs.Shown.{row_text, set_out_text}
-use Rattle.desk.specs.Printing.{as_line, rows_text, SetOutList}
+use Rattle.report.specs.Tables.{as_line}
+use Rattle.desk.specs.Printing.{rows_text, SetOutList}
 
 pub then_ok : {A E P Q : Type 0} (r : Result A E) → (P → Q) → OnOk r P → OnOk r Q
 then_ok (Ok x) f p = f p

@@ -20,7 +20,7 @@ use Rattle.report.specs.Tables.{SheetTable}
 use Rattle.report.specs.Findings.{FindingsBelow}
 use Rattle.desk.specs.declared.desk.Desk.{Desk}
 use Rattle.desk.specs.Desk.{meaning_of, rows_in, findings_in}
-use Rattle.desk.specs.Printing.{as_line}
+use Rattle.report.specs.Tables.{as_line}
 use Rattle.desk.specs.Calling.{verdict_of}
 use Rattle.desk.specs.Reporting.{has_mark, SheetShown, Below, Reports}
 use Rattle.report.proofs.Tables.{append_both}

@@ -24,9 +24,7 @@ use Rattle.answers.specs.Shown.{answer_text, failure_text, row_text, set_out_tex
 use Rattle.choice.specs.declared.in_force.LimitsInForce.{LimitsInForce}
 use Rattle.wording.specs.Lines.{explained_text}
 use Rattle.report.specs.Explaining.{LinesOf}
-
-abbrev pub as_line : List ℕ → List ℕ
-as_line text = text ++ 10 ∷ []
+use Rattle.report.specs.Tables.{as_line}
 
 -- Rows, a line each; the first stands at the position.
 abbrev pub rows_text : (position : ℕ) → List Row → List ℕ

@@ -21,7 +21,8 @@ use Rattle.report.specs.Tables.{SheetTable}
 use Rattle.report.specs.Findings.{FindingsBelow}
 use Rattle.desk.specs.declared.desk.Desk.{Desk}
 use Rattle.desk.specs.Desk.{meaning_of, rows_in, findings_in, Same}
-use Rattle.desk.specs.Printing.{as_line, wrong_line}
+use Rattle.report.specs.Tables.{as_line}
+use Rattle.desk.specs.Printing.{wrong_line}
 use Rattle.desk.specs.Calling.{verdict_of}
 
 -- Whether a mark is this one.

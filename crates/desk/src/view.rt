@@ -9,7 +9,7 @@ ghost use Rattle.report.specs.Explaining.{LinesOf};
 ghost use Rattle.report.specs.Findings.{FindingsBelow};
 ghost use Rattle.desk.specs.Desk.{meaning_of};
 ghost use Rattle.desk.specs.Views.{road_on, records_on, rows_on, shown_on, AsReport};
-ghost use Rattle.report.specs.Written.{Written};
+ghost use Rattle.report.specs.WritesText.{WritesText};
 ghost use Rattle.desk.specs.Printing.{rows_text, SetOutList, Says, SaysDone, why_barred};
 ghost use Rattle.desk.specs.Reporting.{has_mark, SheetShown};
 
@@ -98,7 +98,7 @@ impl<'a> View<'a> {
 
     // The setting-out list, a line for each row.
     fn write_set_out<W: Write>(&self, out: &mut W) -> io::Result<()>
-        ensures { OnOk result (Written (SetOutList 0 (rows_on self.now)) (W.contents out.old) (W.contents out.new)) }
+        ensures { OnOk result (WritesText (SetOutList 0 (rows_on self.now)) (W.contents out.old) (W.contents out.new)) }
     {
         for (position, record) in self.records().iter().enumerate() {
             writeln!(out, "{}", SetOut::of(position, record.read()))?;
@@ -120,7 +120,7 @@ impl<'a> View<'a> {
 
     // Findings in plain words, a line each.
     fn write_findings<W: Write>(&self, out: &mut W, findings: &[Finding]) -> io::Result<()>
-        ensures { OnOk result (Written (LinesOf (road_on self.now) self.now.limits.now (records_on self.now) explained_text findings.now) (W.contents out.old) (W.contents out.new)) }
+        ensures { OnOk result (WritesText (LinesOf (road_on self.now) self.now.limits.now (records_on self.now) explained_text findings.now) (W.contents out.old) (W.contents out.new)) }
     {
         let road = self.sheet.road();
         self.report(&road).write_explained(out, findings)
@@ -128,7 +128,7 @@ impl<'a> View<'a> {
 
     // The sheet as a table.
     pub(crate) fn write_table<W: Write>(&self, out: &mut W) -> io::Result<()>
-        ensures { OnOk result (Written (SheetShown self.now.sheet.now self.now.rows.now self.now.limits.now) (W.contents out.old) (W.contents out.new)) }
+        ensures { OnOk result (WritesText (SheetShown self.now.sheet.now self.now.rows.now self.now.limits.now) (W.contents out.old) (W.contents out.new)) }
     {
         let road = self.sheet.road();
         self.report(&road).write_table(out)
@@ -136,7 +136,7 @@ impl<'a> View<'a> {
 
     // What stands below the table: the findings of a check, and how many they are.
     pub(crate) fn write_below<W: Write>(&self, out: &mut W, findings: &[Finding]) -> io::Result<()>
-        ensures { OnOk result (Written (FindingsBelow (road_on self.now) self.now.limits.now (records_on self.now) findings.now) (W.contents out.old) (W.contents out.new)) }
+        ensures { OnOk result (WritesText (FindingsBelow (road_on self.now) self.now.limits.now (records_on self.now) findings.now) (W.contents out.old) (W.contents out.new)) }
     {
         let road = self.sheet.road();
         self.report(&road).write_findings(out, findings)
@@ -144,7 +144,7 @@ impl<'a> View<'a> {
 
     // Writes that a call was carried out.
     fn write_done<W: Write>(&self, out: &mut W, command: SheetCommand) -> io::Result<()>
-        ensures { OnOk result (Written (SaysDone command (rows_on self.now)) (W.contents out.old) (W.contents out.new)) }
+        ensures { OnOk result (WritesText (SaysDone command (rows_on self.now)) (W.contents out.old) (W.contents out.new)) }
     {
         let count = self.records().len();
         match command {

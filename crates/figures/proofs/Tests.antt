@@ -3,7 +3,7 @@ use Rattle.std.proofs.Common.{ℕ, ◌+◌, ◌-◌, ◌*◌, ◌<◌, ◌≤◌
 use Rattle.std.proofs.lemmas.Bool.{leb-true, ltb-true, le-leb, lt-ltb}
 use Rattle.std.proofs.lemmas.Bool.Decides.{Decides-and, Decides-ltb}
 use Rattle.rows.specs.declared.row.Curve.{Curve}
-use Rattle.figures.specs.Lengths.{WithinLongest, Harmonious, LeavesArc}
+use Rattle.figures.specs.Lengths.{AtMostHalfMore, Harmonious, LeavesArc}
 use Rattle.figures.specs.Radii.{Cramped}
 use Rattle.figures.specs.Tests.{exceeds, harmonious, arcless, cramped}
 
@@ -17,7 +17,7 @@ pub decides_not_up_to : (a b : ℕ) → Decides (ltb b a) (a ≤ b → ⊥)
 decides_not_up_to a b = (λ e h. let lt = ltb-true b a e in omega arith, λ h. lt-ltb b a (omega (arith, h)))
 
 -- rule 2
-pub decides_exceeds : (least length : ℕ) → Decides (exceeds least length) (WithinLongest least length → ⊥)
+pub decides_exceeds : (least length : ℕ) → Decides (exceeds least length) (AtMostHalfMore least length → ⊥)
 decides_exceeds least length = decides_not_up_to (2 * length) (3 * least)
 
 -- rule 5

@@ -3,8 +3,8 @@ use Rattle.std.specs.Prelude.{ℕ, ◌+◌, ◌-◌, ◌*◌, ◌/◌, ◌<◌, 
 use Rattle.rows.specs.declared.row.Curve.{Curve}
 
 -- Rule 2 (4.4.4): a length is at most one and a half times the least that is admitted.
-abbrev pub WithinLongest : (least length : ℕ) → Type 0
-WithinLongest least length = 2 * length ≤ 3 * least
+abbrev pub AtMostHalfMore : (least length : ℕ) → Type 0
+AtMostHalfMore least length = 2 * length ≤ 3 * least
 
 -- Rule 5: an exit and the next entry in harmony, neither above one and a half times the other.
 abbrev pub Harmonious : (exit entry : ℕ) → Type 0

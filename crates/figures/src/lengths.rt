@@ -1,7 +1,7 @@
 // The lengths of clothoids: rules 2, 5 and 6.
 ghost use Rattle.std.specs.Prelude.{◌≡◌, Decides};
 ghost use Rattle.limits.specs.Least.{Smallest};
-ghost use Rattle.figures.specs.Lengths.{WithinLongest, Harmonious, ArcBeside, LeavesArc, Greatest, Exactly, longest_of, least_beside, longest_beside, longest_pair_of};
+ghost use Rattle.figures.specs.Lengths.{AtMostHalfMore, Harmonious, ArcBeside, LeavesArc, Greatest, Exactly, longest_of, least_beside, longest_beside, longest_pair_of};
 ghost use Rattle.figures.specs.Tests.{exceeds, harmonious, arcless};
 
 use rows::row::Curve;
@@ -12,7 +12,7 @@ const ARC: u64 = 318_300;
 /// Rule 2 (4.4.4): the longest clothoid where the least that is admitted has that length.
 pub fn longest_length(least: u32) -> u64
     ensures value { result ≡ longest_of least }
-    ensures greatest { Greatest (WithinLongest least) result }
+    ensures greatest { Greatest (AtMostHalfMore least) result }
 {
     3 * least as u64 / 2
 }
@@ -21,7 +21,7 @@ pub fn longest_length(least: u32) -> u64
 #[inline(always)]
 pub fn exceeds_longest(least: u32, length: u32) -> bool
     ensures value { result ≡ exceeds least length }
-    ensures decides { Decides result (WithinLongest least length → ⊥) }
+    ensures decides { Decides result (AtMostHalfMore least length → ⊥) }
 {
     3 * (least as u64) < 2 * (length as u64)
 }

@@ -10,7 +10,7 @@ use Rattle.rows.specs.declared.row.Row.{Row}
 use Rattle.rows.specs.declared.row.Row.TheVariants as row
 use Rattle.rows.specs.declared.row.Straight.{Straight}
 use Rattle.rows.specs.Curves.{place_of, Calling}
-use Rattle.figures.specs.Lengths.{WithinLongest, Harmonious, LeavesArc}
+use Rattle.figures.specs.Lengths.{AtMostHalfMore, Harmonious, LeavesArc}
 use Rattle.figures.specs.Radii.{Follows, Cramped}
 use Rattle.figures.specs.Runs.{shortest_run_lem, longest_run_lem}
 use Rattle.findings.specs.declared.kind.Kind.{Kind}
@@ -28,7 +28,7 @@ module _ (road : Road) (admission : Admission) where
 
   -- A length is above one and a half times the least that is admitted; where nothing is admitted, no length is.
   abbrev pub TooLong : Curve → ℕ → Type 0
-  TooLong c length = (least : ℕ) × Smallest (Admitted c) least × (WithinLongest least length → ⊥)
+  TooLong c length = (least : ℕ) × Smallest (Admitted c) least × (AtMostHalfMore least length → ⊥)
 
   -- What is found at a curve, by the rows before it and after it. The two kinds of the rules on runs are never found there.
   abbrev pub BrokenByCurve : Kind → List Row → Curve → List Row → Type 0

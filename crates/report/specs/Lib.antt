@@ -5,4 +5,4 @@ pub mod Headings
 pub mod Rows
 pub mod Shown
 pub mod Tables
-pub mod Written
+pub mod WritesText

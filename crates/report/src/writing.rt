@@ -5,7 +5,7 @@ ghost use Rattle.rows.specs.Reading.{row_of};
 ghost use Rattle.choice.specs.Governing.{limits_of};
 ghost use Rattle.report.specs.Headings.{numbered_text, limits_heading};
 ghost use Rattle.report.specs.Tables.{as_line, TableOf, heading_of, SheetTable};
-ghost use Rattle.report.specs.Written.{Written};
+ghost use Rattle.report.specs.WritesText.{WritesText};
 ghost use Rattle.wording.specs.Lines.{explained_text};
 ghost use Rattle.report.specs.Explaining.{LinesOf};
 ghost use Rattle.report.specs.Findings.{finding_line, FindingsBelow};
@@ -71,7 +71,7 @@ fn write_limits<W: Write>(out: &mut W, limits: &LimitsInForce) -> io::Result<()>
 impl Report<'_> {
     // The rows of the table, a line each.
     fn write_rows<W: Write>(&self, out: &mut W) -> io::Result<()>
-        ensures { OnOk result (Written (TableOf self.now.road.now self.now.limits.now 0 (map row_of self.now.rows.now)) (W.contents out.old) (W.contents out.new)) }
+        ensures { OnOk result (WritesText (TableOf self.now.road.now self.now.limits.now 0 (map row_of self.now.rows.now)) (W.contents out.old) (W.contents out.new)) }
     {
         for (position, record) in self.rows.iter().enumerate() {
             let row = TableRow::of(position, record.read(), self.road, self.limits);
@@ -99,7 +99,7 @@ impl Report<'_> {
 
     /// Writes the sheet as a table: its road, mark and limits, the names of the columns, a line for each row, and an empty line.
     pub fn write_table<W: Write>(&self, out: &mut W) -> io::Result<()>
-        ensures { OnOk result (Written (SheetTable self.now.road.now self.now.fitted (map row_of self.now.rows.now) self.now.limits.now) (W.contents out.old) (W.contents out.new)) }
+        ensures { OnOk result (WritesText (SheetTable self.now.road.now self.now.fitted (map row_of self.now.rows.now) self.now.limits.now) (W.contents out.old) (W.contents out.new)) }
     {
         self.write_heading(out)?;
         self.write_rows(out)?;
@@ -108,7 +108,7 @@ impl Report<'_> {
 
     // Findings, a line each.
     fn write_lines<W: Write>(&self, out: &mut W, findings: &[Finding]) -> io::Result<()>
-        ensures { OnOk result (Written (LinesOf self.now.road.now self.now.limits.now self.now.rows.now finding_line findings.now) (W.contents out.old) (W.contents out.new)) }
+        ensures { OnOk result (WritesText (LinesOf self.now.road.now self.now.limits.now self.now.rows.now finding_line findings.now) (W.contents out.old) (W.contents out.new)) }
     {
         for finding in findings {
             let explained = explained(*finding, self.road, self.rows, self.limits);
@@ -119,7 +119,7 @@ impl Report<'_> {
 
     /// Writes findings as a check answers them, a line each: lengths in mm, turns in ten-thousandths of a gon.
     pub fn write_explained<W: Write>(&self, out: &mut W, findings: &[Finding]) -> io::Result<()>
-        ensures { OnOk result (Written (LinesOf self.now.road.now self.now.limits.now self.now.rows.now explained_text findings.now) (W.contents out.old) (W.contents out.new)) }
+        ensures { OnOk result (WritesText (LinesOf self.now.road.now self.now.limits.now self.now.rows.now explained_text findings.now) (W.contents out.old) (W.contents out.new)) }
     {
         for finding in findings {
             let explained = explained(*finding, self.road, self.rows, self.limits);
@@ -130,7 +130,7 @@ impl Report<'_> {
 
     /// Writes how many findings there are, and a line for each: lengths in metres, turns in gon.
     pub fn write_findings<W: Write>(&self, out: &mut W, findings: &[Finding]) -> io::Result<()>
-        ensures { OnOk result (Written (FindingsBelow self.now.road.now self.now.limits.now self.now.rows.now findings.now) (W.contents out.old) (W.contents out.new)) }
+        ensures { OnOk result (WritesText (FindingsBelow self.now.road.now self.now.limits.now self.now.rows.now findings.now) (W.contents out.old) (W.contents out.new)) }
     {
         let found = Counted {
             count: findings.len(),

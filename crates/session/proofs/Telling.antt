@@ -16,7 +16,8 @@ use Rattle.answers.specs.declared.verdict.Verdict.{Verdict}
 use Rattle.answers.specs.declared.verdict.Verdict.TheVariants.{Answered, Wrong}
 use Rattle.desk.specs.declared.desk.Desk.{Desk}
 use Rattle.desk.specs.Desk.{with_limits, IsOpen}
-use Rattle.desk.specs.Printing.{as_line, wrong_line}
+use Rattle.report.specs.Tables.{as_line}
+use Rattle.desk.specs.Printing.{wrong_line}
 use Rattle.session.specs.Choosing.{FileAt, unreadable_text, spaced, echo}
 use Rattle.session.specs.Answering.{AreNamed, LimitLeft, BytesLeft, LineLeft, Unmarked, comment_bytes, no_text, too_long}
 

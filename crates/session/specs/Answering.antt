@@ -25,7 +25,8 @@ use Rattle.answers.specs.Refused.{refused_text}
 use Rattle.desk.specs.declared.desk.Desk.{Desk}
 use Rattle.desk.specs.Desk.{rows_in, Opens, Labels, with_limits}
 use Rattle.desk.specs.Calling.{CalledOn}
-use Rattle.desk.specs.Printing.{as_line, wrong_line, listing_of}
+use Rattle.report.specs.Tables.{as_line}
+use Rattle.desk.specs.Printing.{wrong_line, listing_of}
 use Rattle.desk.specs.Reporting.{Reports}
 use Rattle.session.specs.Choosing.{NamesLimits, FileAt, unreadable_text, echo}
 

@@ -5,7 +5,8 @@ ghost use Rattle.commands.specs.Names.{Names};
 ghost use Rattle.session.specs.Answering.{told_text, verdict_on, comment_bytes, Unmarked, RoadLeft, LabelLeft, RowsLeft, LimitLeft, CommandLeft, TextLeft, BytesLeft, LineLeft, bytes_of};
 ghost use Rattle.session.specs.Choosing.{echo};
 ghost use Rattle.desk.specs.Desk.{sheet_on};
-ghost use Rattle.desk.specs.Printing.{as_line, wrong_line};
+ghost use Rattle.report.specs.Tables.{as_line};
+ghost use Rattle.desk.specs.Printing.{wrong_line};
 
 use crate::limit_words::{NoLimits, named_limits};
 use answers::answer::Answer;

@@ -100,8 +100,8 @@ fn numbers_inside(rt: HostRuntime) -> Result<(), Fail> {
 
 // Adds 4,000 straights.
 fn fill(draft: &mut Draft, rows: &mut [RowRecord]) -> Result<(), Refusal> {
-    for place in 0..4_000 {
-        draft.add(rows, place, new_straight(1))?;
+    for position in 0..4_000 {
+        draft.add(rows, position, new_straight(1))?;
     }
     Ok(())
 }

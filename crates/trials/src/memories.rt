@@ -60,9 +60,9 @@ fn all_made(rt: &impl Abort, sheet: Sheet, rows: &mut Rows, cases: &[Case]) -> S
     sheet
 }
 
-fn add(place: usize, row: NewRow) -> Call<CompulsoryPile> {
+fn add(position: usize, row: NewRow) -> Call<CompulsoryPile> {
     Call::Add {
-        before: Some(place),
+        before: Some(position),
         row,
     }
 }
@@ -101,7 +101,7 @@ fn draft(rt: &impl Abort, rows: &mut Rows) -> Result<Sheet, Refusal> {
     Ok(all_made(rt, Sheet::open(road()?), rows, &cases))
 }
 
-// The smallest number goes first: what is wrong of the row, short memory, no such place, and no room.
+// The smallest number goes first: what is wrong of the row, short memory, no such position, and no room.
 #[test]
 fn editing(rt: HostRuntime) -> Result<(), Fail> {
     let mut rows = [GARBAGE; 5];

@@ -10,7 +10,7 @@ use series::outcome::Outcome;
 use series::watcher::Watcher;
 
 // As many calls as the test makes.
-pub(crate) const CALLS: usize = 9;
+pub(crate) const CALLS: usize = 10;
 
 #[derive(Drop)]
 pub(crate) struct Recorder {
@@ -20,7 +20,7 @@ pub(crate) struct Recorder {
 
 impl Watcher for Recorder {
     // Where there is a slot, it gets the outcome.
-    ghost sees = { λ w seen w'. w.count < 9 → (outcome : Outcome) × ToldAs outcome seen.answer × (w'.outcomes ≡ slice_set w.outcomes w.count outcome) × (w'.count ≡ w.count + 1) };
+    ghost sees = { λ w seen w'. w.count < 10 → (outcome : Outcome) × ToldAs outcome seen.answer × (w'.outcomes ≡ slice_set w.outcomes w.count outcome) × (w'.count ≡ w.count + 1) };
 
     fn see(&mut self, _sheet: &Sheet, _rows: &[RowRecord], _found: &[Finding], outcome: Outcome) {
         if self.count < CALLS {

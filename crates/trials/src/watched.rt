@@ -27,7 +27,7 @@ fn whole(call: Call<Chosen>) -> Request<Chosen> {
     }
 }
 
-// The outcomes of nine calls.
+// The outcomes of ten calls.
 fn outcomes(requests: &[Request<Chosen>]) -> Result<[Outcome; CALLS], Refusal> {
     let mut rows = [RowRecord::BLANK; 2];
     let mut findings = [UNUSED; 2];
@@ -54,6 +54,10 @@ fn norma_and_own(rt: HostRuntime) -> Result<(), Fail> {
             row: new_curve(1_000_000),
         }),
         ask(),
+        Request {
+            call: Call::Fit { limit: OWN },
+            room: 0,
+        },
         whole(Call::Fit { limit: OWN }),
         ask(),
         whole(Call::Check {
@@ -68,6 +72,7 @@ fn norma_and_own(rt: HostRuntime) -> Result<(), Fail> {
         Outcome::Refused(Refusal::NoRows),
         Outcome::Done,
         Outcome::Barred,
+        Outcome::Refused(Refusal::ShortMemory { row: 0 }),
         Outcome::Done,
         Outcome::Parameter(173_206),
         Outcome::Found(2),

@@ -5,6 +5,7 @@ ghost use Rattle.wording.specs.Sentences.{clothoid_text, over_text, range_text, 
 
 use crate::neighbours::Neighbour;
 use crate::reason::{Clothoid, Disagreement, Reason};
+use figures::ADVISED_TURN;
 use figures::lengths::{harmonious_entries, longest_length, longest_pair};
 use rows::end::End;
 use rows::row::Curve;
@@ -348,6 +349,6 @@ fn write_slight_turn<W: fmt::Write>(
     ensures { WritesOnOk W.write_str_gives f.old result (slight_turn_text scale turn) f.new }
 {
     let turn = scale.turn(turn);
-    let least = scale.turn(20_000);
+    let least = scale.turn(ADVISED_TURN);
     write!(f, "turn of {turn}; at least {least} advised")
 }

@@ -1,7 +1,7 @@
 use Rattle.std.proofs.Common.{length, ◌++◌, ap}
 use Rattle.answers.specs.declared.answer.Answer.TheVariants.{Fitted}
 use Rattle.answers.specs.Shown.{answer_text}
-use Rattle.desk.specs.Printing.{as_line}
+use Rattle.report.specs.Tables.{as_line}
 use Rattle.report.proofs.Tables.{append_both}
 use Rattle.desk.proofs.Prints.{then_ok}
 use Rattle.desk.proofs.view.View.write_done.Goals as goal
