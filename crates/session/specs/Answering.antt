@@ -23,7 +23,7 @@ use Rattle.answers.specs.declared.verdict.Verdict.TheVariants.{Answered, Refused
 use Rattle.answers.specs.Shown.{answer_text, failure_text}
 use Rattle.answers.specs.Refused.{refused_text}
 use Rattle.desk.specs.declared.desk.Desk.{Desk}
-use Rattle.desk.specs.Desk.{rows_in, Opens, Labels, with_limits}
+use Rattle.desk.specs.Desk.{rows_in, Opens, Labels, with_limits, sheet_on, limits_on}
 use Rattle.desk.specs.Calling.{CalledOn}
 use Rattle.report.specs.Tables.{as_line}
 use Rattle.desk.specs.Printing.{wrong_line, listing_of}
@@ -72,7 +72,7 @@ module _ (line : ℕ) (before after : Desk) (text : List ℕ) (verdict : Verdict
 
   pub record LabelLeft (radius turn : ℕ) : Type 0 where
     pub answer : Result Answer Failure
-    pub labels : Labels radius turn before.sheet answer
+    pub labels : Labels radius turn (sheet_on before) answer
     pub desk : after ≡ before
     pub tells : text ≡ told_text line (Label radius turn) answer
     pub fares : verdict ≡ verdict_on answer
@@ -86,7 +86,7 @@ module _ (line : ℕ) (before after : Desk) (text : List ℕ) (verdict : Verdict
   -- they name cannot be read, and the line is wrong.
   abbrev pub LimitLeft : List (Bor (List ℕ)) → Option OpenSheet → Type 0
   LimitLeft ws (Some s) =
-      (AreNamed (drop 1 ws) after.limits × (after ≡ with_limits after.limits before) × (text ≡ as_line (echo ws)) × (verdict ≡ Answered))
+      (AreNamed (drop 1 ws) (limits_on after) × (after ≡ with_limits (limits_on after) before) × (text ≡ as_line (echo ws)) × (verdict ≡ Answered))
       ⊎ ((at : ℕ) × (file : List ℕ) × (why : List ℕ) × FileAt 2 (drop 1 ws) at file × IsWrong (unreadable_text at file why))
   LimitLeft ws None = WantsRoad name.Limit
 
@@ -94,10 +94,10 @@ module _ (line : ℕ) (before after : Desk) (text : List ℕ) (verdict : Verdict
   abbrev pub CommandLeft : List (Bor (List ℕ)) → Command → Type 0
   CommandLeft ws (Road design) = RoadLeft design
   CommandLeft ws (Label radius turn) = LabelLeft radius turn
-  CommandLeft ws (Sheet command) = CalledOn line command before.sheet before after text verdict
-  CommandLeft ws Rows = RowsLeft before.sheet
-  CommandLeft ws Report = Reports line before.sheet before after text verdict
-  CommandLeft ws Limit = LimitLeft ws before.sheet
+  CommandLeft ws (Sheet command) = CalledOn line command (sheet_on before) before after text verdict
+  CommandLeft ws Rows = RowsLeft (sheet_on before)
+  CommandLeft ws Report = Reports line (sheet_on before) before after text verdict
+  CommandLeft ws Limit = LimitLeft ws (sheet_on before)
 
   -- What words leave, by what they say.
   abbrev pub LeftBy : List (Bor (List ℕ)) → Result (Option Command) ParseError → Type 0

@@ -2,7 +2,7 @@
 use Rattle.std.specs.Prelude.{◌≡◌, ℕ, ◌+◌, ◌-◌, ◌^◌, min, Bool, ◌&&◌, ◌==◌, cond, List, [], ◌∷◌, ◌++◌, length, Option, None}
 use Rattle.text.specs.Lines.{lines_of}
 use Rattle.choice.specs.declared.in_force.LimitsInForce.TheVariants.{Compulsory}
-use Rattle.desk.specs.Desk.{rows_in, findings_in}
+use Rattle.desk.specs.Desk.{rows_in, findings_in, sheet_on, limits_on}
 use Rattle.answers.specs.declared.verdict.Verdict.{Verdict}
 use Rattle.session.specs.declared.Session.{Session}
 use Rattle.session.specs.declared.faults.Faults.{Faults}
@@ -29,8 +29,8 @@ LinesDone stop (l ∷ ls) s s' text =
 
 -- A session before its first line: no sheet is open, and there is memory for the most rows and for sixteen findings of each.
 pub record Begun (s : Session) : Type 0 where
-  pub sheet : s.desk.sheet ≡ None
-  pub limits : s.desk.limits ≡ Compulsory
+  pub sheet : sheet_on s.desk ≡ None
+  pub limits : limits_on s.desk ≡ Compulsory
   pub rows : length (rows_in s.desk) ≡ 4_000
   pub findings : length (findings_in s.desk) ≡ 64_000
   pub lines : s.lines ≡ 0

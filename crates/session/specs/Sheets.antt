@@ -10,7 +10,7 @@ use Rattle.series.specs.declared.any_sheet.Sheet.{Sheet}
 use Rattle.answers.specs.declared.verdict.Verdict.{Verdict}
 use Rattle.commands.specs.declared.command.SheetCommand.{SheetCommand}
 use Rattle.desk.specs.declared.desk.Desk.{Desk}
-use Rattle.desk.specs.Desk.{rows_in, findings_in}
+use Rattle.desk.specs.Desk.{rows_in, findings_in, sheet_on, limits_on}
 use Rattle.desk.specs.Calling.{asks, Called}
 use Rattle.session.specs.declared.Session.{Session}
 use Rattle.session.specs.Faults.{any}
@@ -24,7 +24,7 @@ pub record Past : Type 0 where
 
 -- The call that a line says: under the limits then in force, and lent all the memory that there is.
 abbrev pub call_said : Desk → SheetCommand → LentCall
-call_said d command = record { room = length (rows_in d); call = λ count. asks d.limits (length (findings_in d)) count command }
+call_said d command = record { room = length (rows_in d); call = λ count. asks (limits_on d) (length (findings_in d)) count command }
 
 abbrev pub one_call_more : Past → LentCall → Seen → Past
 one_call_more h q x = record { road = h.road; calls = h.calls ++ q ∷ []; seen = h.seen ++ x ∷ [] }
@@ -33,11 +33,11 @@ one_call_more h q x = record { road = h.road; calls = h.calls ++ q ∷ []; seen 
 -- begins anew; what leaves the sheet as it was adds nothing.
 pub data Makes (line : ℕ) (d d' : Desk) (text : List ℕ) (v : Verdict) (h h' : Option Past) : Type 0 where
   calling : (k : Past) (command : SheetCommand) (s : Sheet) (called : Called line command s d d' text v)
-      → d.sheet ≡ Some s → h ≡ Some k
+      → sheet_on d ≡ Some s → h ≡ Some k
       → h' ≡ Some (one_call_more k (call_said d command) (record { answer = called.answer; sheet = shown (stands called.left (rows_in d')) }))
       → Makes line d d' text v h h'
-  opening : (road : Road) (s : Sheet) → d'.sheet ≡ Some s → ((memory : List RowRecord) → stands s memory ≡ opened_in road memory) → h' ≡ Some (record { road = road; calls = []; seen = [] }) → Makes line d d' text v h h'
-  keeping : d'.sheet ≡ d.sheet → rows_in d' ≡ rows_in d → h' ≡ h → Makes line d d' text v h h'
+  opening : (road : Road) (s : Sheet) → sheet_on d' ≡ Some s → ((memory : List RowRecord) → stands s memory ≡ opened_in road memory) → h' ≡ Some (record { road = road; calls = []; seen = [] }) → Makes line d d' text v h h'
+  keeping : sheet_on d' ≡ sheet_on d → rows_in d' ≡ rows_in d → h' ≡ h → Makes line d d' text v h h'
 
 -- The same of the lines that are answered, one after the other.
 abbrev pub LinesMake : (stop : Bool) → List (Option (List ℕ)) → Session → Session → (h h' : Option Past) → Type 0
@@ -58,4 +58,4 @@ abbrev pub LinesMakeHistory : Type 0
 LinesMakeHistory =
     (stop : Bool) (lines : List (Option (List ℕ))) (s s' : Session) (text : List ℕ)
     → Begun s → LinesDone stop lines s s' text
-    → (h : Option Past) × LinesMake stop lines s s' None h × Leaves h s'.desk.sheet (rows_in s'.desk)
+    → (h : Option Past) × LinesMake stop lines s s' None h × Leaves h (sheet_on s'.desk) (rows_in s'.desk)
