@@ -8,8 +8,8 @@ use Rattle.rows.specs.declared.row.Row.{Row}
 use Rattle.rows.specs.declared.row.Row.TheVariants.{Straight, Curve}
 use Rattle.rows.specs.Ends.{end_word, sense_word}
 use Rattle.commands.specs.Names.{name_word}
-use Rattle.answers.specs.declared.answer.Answer.{Answer}
-use Rattle.answers.specs.declared.answer.Answer.TheVariants.{Opened, Labelled, Added, Removed, LengthsSet, Found, Fitted, Parameter, Reopened}
+use Rattle.answers.specs.declared.line_answer.LineAnswer.{LineAnswer}
+use Rattle.answers.specs.declared.line_answer.LineAnswer.TheVariants.{Opened, Labelled, Added, Removed, LengthsSet, Found, Fitted, Parameter, Reopened}
 use Rattle.road.specs.Refusals.{number_of, row_of}
 use Rattle.road.specs.Words.{reason_of}
 use Rattle.answers.specs.declared.failure.Failure.{Failure}
@@ -67,7 +67,7 @@ label_text radius turn label =
     ∷ []
     )
 
-abbrev pub answer_text : Answer → List ℕ
+abbrev pub answer_text : LineAnswer → List ℕ
 answer_text (Opened road) = road_text road
 answer_text (Labelled radius turn label) = label_text radius turn label
 answer_text (Added row) = codes "added " ++ decimal row

@@ -1,10 +1,10 @@
-// Why a command has no answer, and how that is shown.
+//! Why a command has no answer, and how that is shown.
 ghost use Rattle.std.specs.Prelude.{◌≡◌, Some};
 ghost use Rattle.answers.specs.Shown.{failure_text};
 ghost use Rattle.answers.specs.declared.failure.Failure.TheVariants.{Refused};
 
-use commands::name::Name;
-use road::refusal::Refusal;
+use commands::Name;
+use road::Refusal;
 use std::error::Error;
 use std::fmt;
 

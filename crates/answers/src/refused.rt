@@ -1,12 +1,12 @@
-// A refusal of what a line asks, and how that is shown.
+//! A refusal of what a line asks, and how that is shown.
 ghost use Rattle.std.specs.Prelude.{◌≡◌, Some};
 ghost use Rattle.std.specs.Fmt.{WritesOnOk};
 ghost use Rattle.answers.specs.Refused.{above_longest, call_value_text, refused_text, value_text};
 
-use commands::command::{Command, SheetCommand};
-use limits::limit::LONGEST_CLOTHOID;
+use commands::{Command, SheetCommand};
+use limits::LONGEST_CLOTHOID;
 use plain::NewRow;
-use road::refusal::Refusal;
+use road::Refusal;
 use std::fmt;
 
 /// A line whose command the rules refuse.

@@ -1,10 +1,10 @@
-// A row of the setting-out list.
+//! A row of the setting-out list.
 ghost use Rattle.std.specs.Prelude.{Some};
 ghost use Rattle.answers.specs.Shown.{set_out_text};
 ghost use Rattle.answers.specs.SetOut.{SetsOut};
 
 use roots::clothoid_parameter;
-use rows::row::Row;
+use rows::Row;
 use std::fmt;
 
 /// What is set out of a row. Lengths and parameters are in mm, and positions are counted from 0.

@@ -1,8 +1,8 @@
-// A row as a line of print.
+//! A row as a line of print.
 ghost use Rattle.std.specs.Prelude.{Some};
 ghost use Rattle.answers.specs.Shown.{row_text};
 
-use rows::row::Row;
+use rows::Row;
 use std::fmt;
 
 /// A row with its position, which is no part of the row and is shown with it.

@@ -14,7 +14,7 @@ use Rattle.limits.proofs.Leasts.{larger_of}
 use Rattle.norma.specs.Formulas.{comfort, transition, azimuth, shift, compulsory}
 use Rattle.norma.specs.Lawful.{shift_lawful}
 use Rattle.choice.specs.Chosen.{chosen}
-use Rattle.choice.specs.Governing.{limits_of}
+use Rattle.choice.specs.Governors.{limits_of}
 use Rattle.choice.specs.declared.in_force.LimitsInForce.TheVariants.{Compulsory}
 
 -- there is one answer

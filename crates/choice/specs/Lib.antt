@@ -1,3 +1,3 @@
 pub mod Chosen
-pub mod Governing
+pub mod Governors
 pub mod InForce

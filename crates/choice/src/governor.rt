@@ -1,13 +1,11 @@
 //! The limit that governs a place: of the limits in force the one that wants the longest clothoid there.
 ghost use Rattle.limits.specs.All.{all_of};
 ghost use Rattle.choice.specs.Chosen.{chosen};
-ghost use Rattle.choice.specs.Governing.{Governed};
+ghost use Rattle.choice.specs.Governors.{Governed};
 
 use crate::ChosenLimit;
 use limit_names::LimitName;
-use limits::all::AllOf;
-use limits::limit::Limit;
-use limits::place::Place;
+use limits::{AllOf, Limit, Place};
 
 /// The limit that governs a place: the first in force whose least length there is that of all of them together.
 #[derive(Clone, Copy, PartialEq, Eq, Debug)]

@@ -1,13 +1,11 @@
 //! The limits in force for a sheet.
-ghost use Rattle.choice.specs.Governing.{limits_of, Governed};
+ghost use Rattle.choice.specs.Governors.{limits_of, Governed};
 ghost use Rattle.choice.specs.InForce.{in_force, in_force_lawful};
 
 use crate::ChosenLimit;
 use crate::governor::{Governing, first_governing};
-use limits::all::AllOf;
-use limits::limit::Limit;
-use limits::place::Place;
-use norma::compulsory::COMPULSORY;
+use limits::{AllOf, Limit, Place};
+use norma::COMPULSORY;
 
 /// The limits under which a sheet is checked and fitted: they hold together, as a pile.
 #[derive(Drop)]

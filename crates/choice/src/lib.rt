@@ -1,4 +1,4 @@
-//! A choice of limits by their names, made at run time: one limit of the Norma's or a client's table, the limits in force for a sheet, and which of them governs a place.
+//! A choice of limits by their names, as a line gives them: one limit of the Norma's or a client's table, the limits in force for a sheet, and which of them governs a place.
 #![tactic(auto)]
 
 pub mod governor;
@@ -7,20 +7,15 @@ pub mod in_force;
 ghost use Rattle.std.specs.Prelude.{◌≡◌};
 ghost use Rattle.limits.specs.declared.place.Place.{Place};
 ghost use Rattle.choice.specs.Chosen.{chosen, chosen_lawful};
-ghost use Rattle.choice.specs.Governing.{name_of};
+ghost use Rattle.choice.specs.Governors.{name_of};
 
-use client_table::table::ClientTable;
+use client_table::ClientTable;
 pub use governor::Governing;
 pub use in_force::LimitsInForce;
 use limit_names::LimitName;
 use limits::either::Either::{self, One, Other};
-use limits::limit::Limit;
-use limits::place::Place;
-use norma::azimuth::AzimuthLimit;
-use norma::comfort::ComfortLimit;
-use norma::fifth::FifthOfTurnLimit;
-use norma::shift::ShiftLimit;
-use norma::transition::TransitionLimit;
+use limits::{Limit, Place};
+use norma::{AzimuthLimit, ComfortLimit, FifthOfTurnLimit, ShiftLimit, TransitionLimit};
 
 /// A limit that is chosen by its name.
 #[derive(Drop)]

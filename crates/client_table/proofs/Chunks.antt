@@ -1,4 +1,4 @@
--- The chunks of a list, by their places.
+-- The chunks of a list, by their positions.
 use Rattle.std.proofs.Common.{◌≡◌, ℕ, zero, suc, ◌+◌, ◌*◌, ◌/◌, ◌<◌, List, [], length as count, get_or, take, drop, refl, ap, ◌∙◌, arith}
 use Rattle.std.specs.Simd.{first_chunks}
 use Rattle.std.proofs.lemmas.List.{drop-drop}
@@ -17,7 +17,7 @@ chunk_at m (suc n) xs (suc i) within =
     let more : m + m * i ≡ m * suc i = omega arith in
     chunk_at m n (drop m xs) i (omega arith) ∙ ap (take m) (drop-drop (m * i) m xs ∙ ap (λ k. drop k xs) more)
 
-pub by_places : (bytes : List ℕ) → WholeEntries bytes (whole_entries bytes)
-by_places bytes =
+pub by_positions : (bytes : List ℕ) → WholeEntries bytes (whole_entries bytes)
+by_positions bytes =
     let many = count_chunks 12 (count bytes / 12) bytes in
     record { many = many; each = λ index within. chunk_at 12 (count bytes / 12) bytes index (omega (arith, many, within)) }

@@ -10,7 +10,7 @@ use Rattle.client_table.specs.declared.entry.Entry.{Entry}
 abbrev pub whole_entries : List ℕ → List (List ℕ)
 whole_entries bytes = first_chunks 12 (count bytes / 12) bytes
 
--- The same by places, from 0: entry `index` is bytes 12 index to 12 index + 11, for as many entries as stand whole in the bytes.
+-- The same by positions, from 0: entry `index` is bytes 12 index to 12 index + 11, for as many entries as stand whole in the bytes.
 pub record WholeEntries (bytes : List ℕ) (entries : List (List ℕ)) : Type 0 where
   pub many : count entries ≡ count bytes / 12
   pub each : (index : ℕ) → index < count entries → get_or entries index [] ≡ take 12 (drop (12 * index) bytes)

@@ -1,12 +1,11 @@
-// The table as a limit.
+//! The table as a limit.
 ghost use Rattle.std.specs.Prelude.{◌≡◌};
 ghost use Rattle.limits.specs.Least.{Smallest};
 ghost use Rattle.client_table.specs.Tables.{whole_entries, WholeEntries, EachAllows, table, ByEntries};
 ghost use Rattle.client_table.specs.Lawful.{table_lawful};
 
 use crate::entry::Entry;
-use limits::limit::{LONGEST_CLOTHOID, Limit};
-use limits::place::Place;
+use limits::{LONGEST_CLOTHOID, Limit, Place};
 
 /// The entries of the client's file, in the memory that it was loaded into; they are borrowed and never copied.
 #[derive(Clone, Copy)]
@@ -19,7 +18,7 @@ impl<'a> ClientTable<'a> {
     /// The table of a file's bytes. A last entry cut short does not count.
     pub fn of(bytes: &'a [u8]) -> ClientTable<'a>
         ensures value { result.entries.now ≡ whole_entries bytes.now }
-        ensures places { WholeEntries bytes.now result.entries.now }
+        ensures order { WholeEntries bytes.now result.entries.now }
     {
         let (entries, _cut_short) = bytes.as_chunks();
         ClientTable { entries }

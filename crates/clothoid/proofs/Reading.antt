@@ -6,9 +6,9 @@ use Rattle.std.proofs.lemmas.List.{append-nil}
 use Rattle.text.specs.Lines.{WithinLongest, Grown, NoNewline, ended_lines, unended, last_line}
 use Rattle.text.proofs.Inputs.{ended_lines-append, unended-append, grown-part, grown-line}
 use Rattle.session.specs.declared.Session.{Session}
-use Rattle.session.specs.Answering.{bytes_of}
+use Rattle.session.specs.Lines.{bytes_of}
 use Rattle.session.specs.Faults.{any}
-use Rattle.session.specs.Reading.{LineDone, LinesDone, Begun, InputAnswered}
+use Rattle.session.specs.Inputs.{LineDone, LinesDone, Begun, InputAnswered}
 
 append_both : (old mid new : Option (List ℕ)) (xs ys : List ℕ) → Appends old mid xs → Appends mid new ys → Appends old new (xs ++ ys)
 append_both None mid new xs ys p q = tt

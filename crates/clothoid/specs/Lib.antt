@@ -1,2 +1,2 @@
-pub mod Answered
-pub mod Ending
+pub mod Lines
+pub mod StandardError

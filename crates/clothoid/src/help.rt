@@ -1,5 +1,5 @@
 // What the program says of itself.
-use commands::name::Name;
+use commands::Name;
 use std::fmt;
 
 /// How the program is called.

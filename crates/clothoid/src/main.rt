@@ -6,15 +6,15 @@ ghost use Rattle.std.specs.Io.KnownBytes.{Appends};
 ghost use Rattle.std.specs.Process.{exit_status};
 ghost use Rattle.session.specs.declared.faults.Faults.{Faults};
 ghost use Rattle.session.specs.Faults.{status_of};
-ghost use Rattle.session.specs.Reading.{InputAnswered};
-ghost use Rattle.clothoid.specs.Ending.{said_of};
+ghost use Rattle.session.specs.Inputs.{InputAnswered};
+ghost use Rattle.clothoid.specs.StandardError.{said_of};
 
-use session::faults::Faults;
+use session::Faults;
 use std::fmt::Display;
 use std::io::{BufWriter, ErrorKind, Read, Write};
 use std::process::ExitCode;
 use std::{env, fs, io};
-use text::shown::Shown;
+use text::Shown;
 
 mod help;
 pub mod reader;
@@ -105,7 +105,7 @@ fn print_help(rt: &HostRuntime) -> ExitCode {
 }
 
 // Does what the arguments ask.
-fn run(rt: &HostRuntime) -> io::Result<ExitCode> {
+fn answer_arguments(rt: &HostRuntime) -> io::Result<ExitCode> {
     let mut args = env::args(rt)?;
     let _ = args.next();
     let mut stop = false;
@@ -131,7 +131,7 @@ fn run(rt: &HostRuntime) -> io::Result<ExitCode> {
 }
 
 fn main(rt: HostRuntime) -> ExitCode {
-    match run(&rt) {
+    match answer_arguments(&rt) {
         Ok(status) => status,
         Err(why) => fail(&rt, why),
     }

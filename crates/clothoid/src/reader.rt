@@ -3,15 +3,14 @@ ghost use Rattle.std.specs.Prelude.{◌≡◌, ◌<◌, ◌⊎◌, List, ℕ, �
 ghost use Rattle.std.specs.Io.KnownBytes.{Appends};
 ghost use Rattle.text.specs.Lines.{ended_lines, last_line, unended};
 ghost use Rattle.session.specs.Faults.{any};
-ghost use Rattle.session.specs.Reading.{InputAnswered};
-ghost use Rattle.clothoid.specs.Answered.{LinesAnswered};
+ghost use Rattle.session.specs.Inputs.{InputAnswered, faults_of};
+ghost use Rattle.clothoid.specs.Lines.{LinesAnswered};
 
-use session::Session;
-use session::faults::Faults;
+use session::{Faults, Session};
 use std::alloc::{AllocError, Global};
 use std::io;
 use std::io::{Read, Write};
-use text::lines::{Pending, split_line};
+use text::{Pending, split_line};
 
 // How many bytes are asked for at a time.
 const CHUNK: usize = 65_536;
@@ -39,7 +38,7 @@ impl From<AllocError> for Failed {
 
 // Whether the program is to stop: at the first line that is refused or wrong, where that is asked.
 fn stops(stop: bool, session: &Session) -> bool
-    ensures { result ≡ stop && any session.now.faults }
+    ensures { result ≡ stop && any (faults_of session.now) }
 {
     stop && session.faults().any()
 }
@@ -54,7 +53,7 @@ fn answer_chunk<W: Write>(
     chunk: &[u8],
 ) -> io::Result<()>
     ensures lines { OnOk result (LinesAnswered stop (ended_lines pending.old chunk.now) session.old session.new (W.contents out.old) (W.contents out.new)) }
-    ensures rest { OnOk result (T (stop && any session.new.faults) ⊎ (pending.new ≡ unended pending.old chunk.now)) }
+    ensures rest { OnOk result (T (stop && any (faults_of session.new)) ⊎ (pending.new ≡ unended pending.old chunk.now)) }
 {
     let mut rest = chunk;
     while let Some((line, next)) = split_line(rest) {
@@ -87,7 +86,7 @@ fn answer_ended<R: Read, W: Write>(
     out: &mut W,
 ) -> Result<(), Failed>
     ensures lines { OnOk result (IfSome (R.remaining reader.old) (λ input. LinesAnswered stop (ended_lines pending.old input) session.old session.new (W.contents out.old) (W.contents out.new))) }
-    ensures rest { OnOk result (IfSome (R.remaining reader.old) (λ input. T (stop && any session.new.faults) ⊎ (pending.new ≡ unended pending.old input))) }
+    ensures rest { OnOk result (IfSome (R.remaining reader.old) (λ input. T (stop && any (faults_of session.new)) ⊎ (pending.new ≡ unended pending.old input))) }
 {
     let mut buffer = block(rt.alloc())?;
     // counted, since a loop with no end would need the right to wait

@@ -45,11 +45,11 @@ table_more ws k within before here =
     let less : k < length ws = omega arith in
     rw (take_more ws (k + 1) none within, take_more ws k none less, append_assoc) (joined (take k ws) _ before (inr (here, tt)))
 
--- the word at place i, among those after the first
+-- the word at position i, among those after the first
 pub after_first : (ws : List (Bor (List ℕ))) (i k : ℕ) → i ≡ k + 1 → get_or (drop 1 ws) k none ≡ get_or ws i none
 after_first ws i k next = get_or_after_one ws k none ∙ ap (λ j. get_or ws j none) (omega arith)
 
--- one more name stands at place i
+-- one more name stands at position i
 pub name_read : (ws : List (Bor (List ℕ))) (i : ℕ) (name : LimitName) → 1 ≤ i → i < length ws → NamesBefore ws (i + 1) → word ws i ≡ limit_word name → (name ≡ Table → ⊥) → NamesBefore ws ((i + 1) + 1)
 name_read ws i name some within before is other =
     let k = (i + 1) - 2 in

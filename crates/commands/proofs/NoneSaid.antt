@@ -22,11 +22,11 @@ use Rattle.commands.specs.Mistakes.{Blames, Wanted, MayEnd, Wrong, In, LimitAt, 
 use Rattle.commands.specs.Said.{Operands, Says}
 use Rattle.commands.proofs.NameSteps.{left_over, after_first}
 
--- what stands at place i, counted from 0, a word or the end of the line, is what is expected
+-- what stands at position i, counted from 0, a word or the end of the line, is what is expected
 abbrev Right : List (Bor (List ℕ)) → Expected → ℕ → Type 0
 Right ws x i = (i < length ws → Wanted x (word ws i)) × (length ws ≡ i → MayEnd x)
 
--- and so at the places from place i on
+-- and so at the positions from position i on
 abbrev AllRight : List (Bor (List ℕ)) → List Expected → ℕ → Type 0
 AllRight ws [] i = Unit {0}
 AllRight ws (x ∷ xs) i = Right ws x i × AllRight ws xs (i + 1)
@@ -62,7 +62,7 @@ last_name : (w : Bor (List ℕ)) (ws : List (Bor (List ℕ))) → ws ≡ [] → 
 last_name w [] last names table = names.1 table
 last_name w (v ∷ ws) last names table = absurd (cc)
 
--- the names from place i on, where those before are names
+-- the names from position i on, where those before are names
 names_from : (ws : List (Bor (List ℕ))) (i k : ℕ) → i ≡ k + 1 → i < length ws → Names (take k (drop 1 ws)) → Names (drop 1 ws) → Names (get_or ws i none ∷ drop (k + 1) (drop 1 ws))
 names_from ws i k next within before all =
     let less : k < length (drop 1 ws) = simp length-drop (omega arith) in

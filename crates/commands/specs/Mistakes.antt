@@ -17,7 +17,7 @@ use Rattle.limit_names.specs.Names.{ALimit}
 use Rattle.commands.specs.Names.{name_word, ACommand, Names}
 use Rattle.commands.specs.Words.{word, choice_word}
 
--- the error names a word of the line and its place, counted from 1, or the place after the last word
+-- the error names a word of the line and its position, counted from 1, or the position after the last word
 abbrev pub Blames : List (Bor (List ℕ)) → ParseError → Type 0
 Blames ws e =
     MatchOption e.word (e.at ≡ length ws + 1) (λ w. (0 < e.at) × (e.at ≤ length ws) × (w.now ≡ word ws (e.at - 1)))
@@ -41,16 +41,16 @@ MayEnd want.Before = Unit {0}
 MayEnd want.EndOfLine = Unit {0}
 MayEnd x = ⊥
 
--- what stands at the error's place, a word or the end of the line, is not what should have stood there
+-- what stands at the error's position, a word or the end of the line, is not what should have stood there
 abbrev pub Wrong : List (Bor (List ℕ)) → ParseError → Type 0
 Wrong ws e =
     (e.at ≤ length ws → Wanted e.expected (word ws (e.at - 1)) → ⊥) × (e.at ≡ length ws + 1 → MayEnd e.expected → ⊥)
 
--- there is a word at place i, counted from 0, and it is what is expected
+-- there is a word at position i, counted from 0, and it is what is expected
 abbrev pub IsThere : List (Bor (List ℕ)) → ℕ → Expected → Type 0
 IsThere ws i x = (i < length ws) × Wanted x (word ws i)
 
--- the error is of the word at place `at`, where x should have stood
+-- the error is of the word at position `at`, where x should have stood
 abbrev pub WrongAt : List (Bor (List ℕ)) → (at : ℕ) → Expected → ParseError → Type 0
 WrongAt ws at x e = Blames ws e × (e.at ≡ at) × (e.expected ≡ x) × Wrong ws e
 
@@ -62,31 +62,31 @@ WrongWhere ws Stands e = Blames ws e × Stands e.at e.expected × Wrong ws e
 abbrev pub WrongBehind : List (Bor (List ℕ)) → (Stands : ℕ → Expected → Type 0) → ParseError → Type 0
 WrongBehind ws Stands e = Blames ws e × (1 < e.at) × Stands e.at e.expected × Wrong ws e
 
--- the words from place i on, counted from 0, are what the list has
+-- the words from position i on, counted from 0, are what the list has
 abbrev pub AllWanted : List Expected → List (Bor (List ℕ)) → ℕ → Type 0
 AllWanted [] ws i = Unit {0}
 AllWanted (x ∷ xs) ws i = Wanted x (word ws i) × AllWanted xs ws (i + 1)
 
--- the words after the first and before the place are what the list has, so that no word before the place is wrong
+-- the words after the first and before the position are what the list has, so that no word before the position is wrong
 abbrev pub RightBefore : List Expected → List (Bor (List ℕ)) → ℕ → Type 0
 RightBefore xs ws at = AllWanted (take (at - 2) xs) ws 1
 
--- x is the one of the list that stands at the place, where the first stands at the second place of a line, and the words before are right
+-- x is the one of the list that stands at the position, where the first stands at the second position of a line, and the words before are right
 abbrev pub In : List Expected → List (Bor (List ℕ)) → ℕ → Expected → Type 0
 In xs ws at x = (slice_get xs (at - 2) ≡ Some x) × RightBefore xs ws at
 
--- what stands at a place after place i, where the words may be `before N`, and those of them before the place are right
+-- what stands at a position after position i, where the words may be `before N`, and those of them before the position are right
 abbrev pub BeforeAt : List (Bor (List ℕ)) → ℕ → ℕ → Expected → Type 0
 BeforeAt ws i at x =
     ((at ≡ i + 1) × (x ≡ want.Before))
     ⊎ ((at ≡ i + 2) × (x ≡ want.Number) × Wanted want.Before (word ws i))
     ⊎ ((at ≡ i + 3) × (x ≡ want.EndOfLine) × Wanted want.Before (word ws i) × Wanted want.Number (word ws (i + 1)))
 
--- the words after the first and before the place are names of limits
+-- the words after the first and before the position are names of limits
 abbrev pub NamesBefore : List (Bor (List ℕ)) → ℕ → Type 0
 NamesBefore ws at = Names (take (at - 2) (drop 1 ws))
 
--- what stands at a place of a `limit` line, where the words before the place are right; but a line of 64 words or more may have been cut, and is wrong
+-- what stands at a position of a `limit` line, where the words before the position are right; but a line of 64 words or more may have been cut, and is wrong
 -- at word 64 whatever stands before
 abbrev pub LimitAt : List (Bor (List ℕ)) → ℕ → Expected → Type 0
 LimitAt ws at want.LimitName = (length ws < 64) × NamesBefore ws at × ((at ≡ 2) ⊎ (at ≤ length ws))
@@ -94,7 +94,7 @@ LimitAt ws at want.FileName = (length ws < 64) × (2 < at) × NamesBefore ws (at
 LimitAt ws at want.EndOfLine = at ≡ 64
 LimitAt ws at x = ⊥
 
--- what stands at a place of a command's line, counted from 1, where the words before the place are right
+-- what stands at a position of a command's line, counted from 1, where the words before the position are right
 abbrev pub StandsAt : Name → List (Bor (List ℕ)) → ℕ → Expected → Type 0
 StandsAt Road ws = In (want.Class ∷ want.Number ∷ want.Number ∷ want.Number ∷ want.JerkChoice ∷ want.EndOfLine ∷ []) ws
 StandsAt Label ws = In (want.Number ∷ want.Number ∷ want.EndOfLine ∷ []) ws
@@ -110,7 +110,7 @@ StandsAt Parameter ws = In (want.Number ∷ want.End ∷ want.EndOfLine ∷ []) 
 StandsAt Reopen ws = In (want.EndOfLine ∷ []) ws
 StandsAt Limit ws = LimitAt ws
 
--- the error says what should have stood at its place: a command's name, or what the command that is named has there after words that are right,
+-- the error says what should have stood at its position: a command's name, or what the command that is named has there after words that are right,
 -- so that of several wrong words it names the first
 abbrev pub Expects : List (Bor (List ℕ)) → ParseError → Type 0
 Expects ws e =

@@ -15,7 +15,7 @@ use Rattle.commands.specs.Names.{name_word, name_of, Names}
 use Rattle.commands.specs.Mistakes.{Blames, Expects, In, StandsAt, Wrong, WrongBehind}
 use Rattle.commands.specs.Words.{word, Spells, choice_word}
 
--- from place i on the words are `before N`, or the line ends there
+-- from position i on the words are `before N`, or the line ends there
 abbrev pub BeforeFrom : List (Bor (List ℕ)) → ℕ → Option ℕ → Type 0
 BeforeFrom ws i None = length ws ≡ i
 BeforeFrom ws i (Some n) = (length ws ≡ i + 2) × (word ws i ≡ codes "before") × Spells (word ws (i + 1)) n

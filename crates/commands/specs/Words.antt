@@ -9,7 +9,7 @@ use Rattle.road.specs.declared.jerk.JerkChoice.TheVariants.{Usual, Top}
 abbrev pub none : Bor (List ℕ)
 none = record { ref_ptr = (0, 0); now = [] }
 
--- the word at place i, counted from 0
+-- the word at position i, counted from 0
 abbrev pub word : List (Bor (List ℕ)) → ℕ → List ℕ
 word ws i = (slice_index_or ws i none).now
 

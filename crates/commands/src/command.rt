@@ -1,11 +1,11 @@
-// What a line can say.
+//! What a line can say.
 ghost use Rattle.std.specs.Prelude.{◌≡◌};
 ghost use Rattle.commands.specs.Names.{name_of_call};
 
 use crate::name::Name;
 use plain::NewRow;
-use road::design::RoadDesign;
-use rows::end::End;
+use road::RoadDesign;
+use rows::End;
 
 /// What a line asks of the open sheet. Numbers are as the line has them: no range is tested, and no row need be there.
 #[derive(Clone, Copy, Debug, PartialEq, Eq)]

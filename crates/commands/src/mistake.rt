@@ -1,4 +1,4 @@
-// Why a line is no command, and how that is shown.
+//! Why a line is no command, and how that is shown.
 ghost use Rattle.std.specs.Prelude.{◌≡◌, Some, map};
 ghost use Rattle.std.specs.Fmt.{WritesOnOk};
 ghost use Rattle.commands.specs.Shown.{between, expected_text, mistake_text, one_of, shown_word};
@@ -7,7 +7,7 @@ use crate::name::COMMAND_WORDS;
 use limit_names::LIMIT_WORDS;
 use std::error::Error;
 use std::fmt::{self, Display};
-use text::shown::ShownChar;
+use text::ShownChar;
 
 /// What should have stood where the wrong word stands.
 #[derive(Clone, Copy, PartialEq, Eq, Debug)]
@@ -66,7 +66,7 @@ impl fmt::Display for Expected {
 /// Why a line is no command: one of its words, the first that is wrong, is not what should have stood there.
 #[derive(Clone, Copy, PartialEq, Eq, Debug)]
 pub struct ParseError<'a> {
-    /// The word's place, counted from 1.
+    /// The word's position, counted from 1.
     pub at: usize,
     /// The word; `None` where the line ends before it.
     pub word: Option<&'a str>,
@@ -74,7 +74,7 @@ pub struct ParseError<'a> {
     pub expected: Expected,
 }
 
-/// Names the word and its place, and says what was expected; a word of more than 40 characters is shown by its front.
+/// Names the word and its position, and says what was expected; a word of more than 40 characters is shown by its front.
 impl fmt::Display for ParseError<'_> {
     ghost output = { λ e. Some (mistake_text e.at e.word e.expected) };
 

@@ -1,4 +1,4 @@
-// The names of commands, each the first word of its lines.
+//! The names of commands, each the first word of its lines.
 ghost use Rattle.std.specs.Prelude.{◌≡◌, Some, MatchOption};
 ghost use Rattle.commands.specs.Names.{ACommand, name_word};
 

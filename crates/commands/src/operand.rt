@@ -12,10 +12,8 @@ ghost use Rattle.commands.specs.declared.mistake.Expected.TheVariants as want;
 use crate::mistake::Expected;
 use crate::name::Name;
 use limit_names::{LimitName, limit_name};
-use road::class::Class;
-use road::jerk::JerkChoice;
-use rows::end::End;
-use rows::row::Sense;
+use road::{Class, JerkChoice};
+use rows::{End, Sense};
 use text::number::number;
 
 pub(crate) trait Operand: Sized {

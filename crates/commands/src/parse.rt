@@ -1,4 +1,4 @@
-// A line's words, read as a command.
+//! A line's words, read as a command.
 ghost use Rattle.std.specs.Prelude.{◌≡◌, ◌+◌, ◌<◌, ◌≤◌, ◌⊎◌, length, MatchResult, OnOk};
 ghost use Rattle.commands.specs.declared.mistake.Expected.TheVariants as want;
 ghost use Rattle.commands.specs.declared.name.Name.TheVariants as name;
@@ -13,12 +13,12 @@ use crate::name::Name;
 use crate::operand::{FileName, Operand};
 use limit_names::LimitName;
 use plain::NewRow;
-use road::design::RoadDesign;
+use road::RoadDesign;
 
 /// The most words of a line that are read, more than any command but `limit` has. A `limit` line of so many may have been cut, and is wrong (the office's own).
 pub const MOST_WORDS: usize = 64;
 
-// The words of a line, and the place of the one that is read next.
+// The words of a line, and the position of the one that is read next.
 #[derive(Drop)]
 struct Cursor<'w, 'a> {
     words: &'w [&'a str],
@@ -27,7 +27,7 @@ struct Cursor<'w, 'a> {
 }
 
 impl<'a> Cursor<'_, 'a> {
-    // The word at the place, or the line's end, is not what was expected.
+    // The word at the position, or the line's end, is not what was expected.
     fn wrong(&self, expected: Expected) -> ParseError<'a>
         ensures blames { Blames self.now.words.now result }
         ensures expects { (result.at ≡ self.now.at + 1) × (result.expected ≡ expected) }
@@ -39,7 +39,7 @@ impl<'a> Cursor<'_, 'a> {
         }
     }
 
-    // Reads the word at the place.
+    // Reads the word at the position.
     fn operand<T: Operand>(&mut self) -> Result<T, ParseError<'a>>
         ensures read { MatchResult result (λ x. T.says (word self.old.words.now self.old.at) x × IsThere self.old.words.now self.old.at T.expects) (WrongAt self.old.words.now (self.old.at + 1) T.expects) }
         ensures next { OnOk result ((self.new.words ≡ self.old.words) × (self.new.at ≡ self.old.at + 1)) }
@@ -53,7 +53,7 @@ impl<'a> Cursor<'_, 'a> {
         Ok(value)
     }
 
-    // That the line ends at the place.
+    // That the line ends at the position.
     fn end(&self) -> Result<(), ParseError<'a>>
         ensures { MatchResult result (λ _. length self.now.words.now ≡ self.now.at) (WrongAt self.now.words.now (self.now.at + 1) want.EndOfLine) }
     {
@@ -63,7 +63,7 @@ impl<'a> Cursor<'_, 'a> {
         Ok(())
     }
 
-    // Reads `before N`, or nothing where the line ends at the place.
+    // Reads `before N`, or nothing where the line ends at the position.
     fn before(&mut self) -> Result<Option<u32>, ParseError<'a>>
         ensures { MatchResult result (BeforeFrom self.old.words.now self.old.at) (WrongWhere self.old.words.now (BeforeAt self.old.words.now self.old.at)) }
     {

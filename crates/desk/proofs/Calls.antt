@@ -13,8 +13,8 @@ use Rattle.answers.specs.declared.verdict.Verdict.{Verdict}
 use Rattle.commands.specs.declared.command.SheetCommand.{SheetCommand}
 use Rattle.desk.specs.declared.desk.Desk.{Desk}
 use Rattle.desk.specs.Desk.{rows_in, findings_in}
-use Rattle.desk.specs.Printing.{Says}
-use Rattle.desk.specs.Calling.{asks, verdict_of, CalledOn}
+use Rattle.desk.specs.Texts.{Says}
+use Rattle.desk.specs.Calls.{asks, verdict_of, CalledOn}
 
 -- a sheet's rows are few
 few : (s : Sheet) → count_of s ≤ 4_000

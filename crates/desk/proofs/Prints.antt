@@ -4,13 +4,13 @@ use Rattle.std.specs.Io.KnownBytes.{Appends}
 use Rattle.std.proofs.lemmas.List.{append-nil, map_more, length-map, length-take-le}
 use Rattle.rows.specs.declared.record.RowRecord.{RowRecord}
 use Rattle.rows.specs.declared.row.Row.{Row}
-use Rattle.rows.specs.Reading.{row_of}
+use Rattle.rows.specs.Records.{row_of}
 use Rattle.answers.specs.declared.set_out.SetOut.{SetOut}
 use Rattle.answers.specs.SetOut.{SetsOut}
 use Rattle.report.proofs.Tables.{append_both}
 use Rattle.answers.specs.Shown.{row_text, set_out_text}
 use Rattle.report.specs.Tables.{as_line}
-use Rattle.desk.specs.Printing.{rows_text, SetOutList}
+use Rattle.desk.specs.Texts.{rows_text, SetOutList}
 
 pub then_ok : {A E P Q : Type 0} (r : Result A E) → (P → Q) → OnOk r P → OnOk r Q
 then_ok (Ok x) f p = f p

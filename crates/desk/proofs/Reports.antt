@@ -4,7 +4,7 @@ use Rattle.std.specs.Io.KnownBytes.{Appends}
 use Rattle.road.specs.declared.refusal.Refusal.{Refusal}
 use Rattle.road.specs.declared.road.Road.{Road}
 use Rattle.rows.specs.declared.record.RowRecord.{RowRecord}
-use Rattle.rows.specs.Reading.{row_of}
+use Rattle.rows.specs.Records.{row_of}
 use Rattle.findings.specs.declared.finding.Finding.{Finding}
 use Rattle.plain.specs.Sheet.{fitted, check}
 use Rattle.sheet.specs.States.{listed, Untouched, Performs}
@@ -12,17 +12,17 @@ use Rattle.series.specs.Calls.{mark_of, road_of, count_of, stands}
 use Rattle.series.specs.declared.any_sheet.Sheet.{Sheet}
 use Rattle.choice.specs.declared.in_force.LimitsInForce.{LimitsInForce}
 use Rattle.answers.specs.declared.verdict.Verdict.{Verdict}
-use Rattle.answers.specs.declared.answer.Answer.TheVariants.{Found}
+use Rattle.answers.specs.declared.line_answer.LineAnswer.TheVariants.{Found}
 use Rattle.answers.specs.Shown.{answer_text}
 use Rattle.wording.specs.Lines.{explained_text}
-use Rattle.report.specs.Explaining.{LinesOf}
+use Rattle.report.specs.Explanations.{LinesOf}
 use Rattle.report.specs.Tables.{SheetTable}
 use Rattle.report.specs.Findings.{FindingsBelow}
 use Rattle.desk.specs.declared.desk.Desk.{Desk}
 use Rattle.desk.specs.Desk.{meaning_of, rows_in, findings_in}
 use Rattle.report.specs.Tables.{as_line}
-use Rattle.desk.specs.Calling.{verdict_of}
-use Rattle.desk.specs.Reporting.{has_mark, SheetShown, Below, Reports}
+use Rattle.desk.specs.Calls.{verdict_of}
+use Rattle.desk.specs.Reports.{has_mark, SheetShown, Below, Reports}
 use Rattle.report.proofs.Tables.{append_both}
 
 -- a table of a sheet's own road, mark, rows and limits

@@ -3,7 +3,7 @@ use Rattle.std.specs.Prelude.{◌≡◌, ℕ, List, vec_items, Some, None, Ok, E
 use Rattle.road.specs.declared.design.RoadDesign.{RoadDesign}
 use Rattle.road.specs.declared.refusal.Refusal.{Refusal}
 use Rattle.road.specs.declared.road.Road.{Road}
-use Rattle.road.specs.Opening as opening
+use Rattle.road.specs.Openings as opening
 use Rattle.label.specs.declared.Label.{Label}
 use Rattle.label.specs.Labels as labels
 use Rattle.choice.specs.InForce.{in_force, in_force_lawful}
@@ -17,8 +17,8 @@ use Rattle.series.specs.Histories.{opened_in}
 use Rattle.series.specs.declared.any_sheet.Sheet.{Sheet}
 use Rattle.commands.specs.declared.name.Name.{Name}
 use Rattle.commands.specs.declared.name.Name.TheVariants as names
-use Rattle.answers.specs.declared.answer.Answer.{Answer}
-use Rattle.answers.specs.declared.answer.Answer.TheVariants.{Opened, Labelled}
+use Rattle.answers.specs.declared.line_answer.LineAnswer.{LineAnswer}
+use Rattle.answers.specs.declared.line_answer.LineAnswer.TheVariants.{Opened, Labelled}
 use Rattle.answers.specs.declared.failure.Failure.{Failure}
 use Rattle.answers.specs.declared.failure.Failure.TheVariants.{Refused, NoRoad}
 use Rattle.desk.specs.declared.desk.Desk.{Desk}
@@ -54,21 +54,21 @@ LaysOut road (Some s) = (memory : List RowRecord) → stands s memory ≡ opened
 LaysOut road None = ⊥
 
 -- Opening a road lays a new sheet on the desk, under the compulsory limits; a road that the library refuses changes nothing.
-abbrev pub OpenedAs : Result Road Refusal → Desk → Desk → Result Answer Failure → Type 0
+abbrev pub OpenedAs : Result Road Refusal → Desk → Desk → Result LineAnswer Failure → Type 0
 OpenedAs (Ok road) before after answer =
     (answer ≡ Ok (Opened road)) × LaysOut road after.sheet × (after.limits ≡ Compulsory)
     × (rows_in after ≡ rows_in before) × (findings_in after ≡ findings_in before)
 OpenedAs (Err refusal) before after answer = (answer ≡ Err (Refused refusal)) × Same before after
 
-abbrev pub Opens : RoadDesign → Desk → Desk → Result Answer Failure → Type 0
+abbrev pub Opens : RoadDesign → Desk → Desk → Result LineAnswer Failure → Type 0
 Opens design before after answer = (given : Result Road Refusal) × opening.Opened design given × OpenedAs given before after answer
 
 -- A label is what the library gives the curve on the sheet's road.
-abbrev pub label_answer : (radius turn : ℕ) → Result Label Refusal → Result Answer Failure
+abbrev pub label_answer : (radius turn : ℕ) → Result Label Refusal → Result LineAnswer Failure
 label_answer radius turn (Ok label) = Ok (Labelled radius turn label)
 label_answer radius turn (Err refusal) = Err (Refused refusal)
 
-abbrev pub Labels : (radius turn : ℕ) → Option Sheet → Result Answer Failure → Type 0
+abbrev pub Labels : (radius turn : ℕ) → Option Sheet → Result LineAnswer Failure → Type 0
 Labels radius turn (Some s) answer = (given : Result Label Refusal) × labels.Labelled (road_of s) radius turn given × (answer ≡ label_answer radius turn given)
 Labels radius turn None answer = answer ≡ Err (NoRoad names.Label)
 

@@ -1,5 +1,5 @@
-pub mod Calling
+pub mod Calls
 pub mod Desk
-pub mod Printing
-pub mod Reporting
+pub mod Texts
+pub mod Reports
 pub mod Views

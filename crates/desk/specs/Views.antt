@@ -3,13 +3,13 @@ use Rattle.std.specs.Prelude.{◌≡◌, List, take}
 use Rattle.road.specs.declared.road.Road.{Road}
 use Rattle.rows.specs.declared.record.RowRecord.{RowRecord}
 use Rattle.rows.specs.declared.row.Row.{Row}
-use Rattle.rows.specs.Reading.{rows_of}
+use Rattle.rows.specs.Records.{rows_of}
 use Rattle.plain.specs.Sheet.{fitted, Plain}
 use Rattle.sheet.specs.States.{shown}
 use Rattle.series.specs.Calls.{mark_of, road_of, count_of, stands}
-use Rattle.report.specs.declared.writing.Report.{Report}
+use Rattle.report.specs.declared.report.Report.{Report}
 use Rattle.desk.specs.declared.view.View.{View}
-use Rattle.desk.specs.Reporting.{has_mark}
+use Rattle.desk.specs.Reports.{has_mark}
 
 abbrev pub road_on : View → Road
 road_on v = road_of v.sheet.now

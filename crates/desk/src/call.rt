@@ -2,13 +2,12 @@
 ghost use Rattle.std.specs.Prelude.{◌≡◌, List, ℕ};
 ghost use Rattle.findings.specs.declared.finding.Finding.{Finding};
 ghost use Rattle.series.specs.Calls.{asked, told};
-ghost use Rattle.desk.specs.Calling.{meant, asks, verdict_of};
+ghost use Rattle.desk.specs.Calls.{meant, asks, verdict_of};
 
-use answers::verdict::Verdict;
-use choice::in_force::LimitsInForce;
-use commands::command::SheetCommand;
-use series::call::Call;
-use series::outcome::Outcome;
+use answers::Verdict;
+use choice::LimitsInForce;
+use commands::SheetCommand;
+use series::{Call, Outcome};
 
 // The call under the limits, with all the space that there is for findings. A command has numbers as a line gives them, a call also the limits and the space.
 pub(crate) fn call_of<'a>(

@@ -3,35 +3,17 @@ ghost use Rattle.std.specs.Prelude.{◌≤◌, vec_len};
 
 use crate::call::{call_of, verdict};
 use crate::view::{View, check};
-use answers::answer::Answer;
-use answers::failure::Failure;
-use answers::refused::RefusedLine;
-use answers::verdict::Verdict;
-use choice::ChosenLimit;
-use choice::in_force::LimitsInForce;
-use commands::command::{Command, SheetCommand};
-use commands::name::Name;
-use findings::finding::{Finding, Rule, Side, Weight};
+use answers::{Failure, LineAnswer, RefusedLine, Verdict};
+use choice::{ChosenLimit, LimitsInForce};
+use commands::{Command, Name, SheetCommand};
+use findings::{Finding, MOST_FINDINGS};
 use label::Label;
-use road::design::RoadDesign;
-use road::road::Road;
-use rows::range::MOST_ROWS;
-use rows::record::RowRecord;
-use series::any_sheet::Sheet;
+use road::{Road, RoadDesign};
+use rows::{MOST_ROWS, RowRecord};
+use series::Sheet;
 use std::alloc::{AllocError, Global};
 use std::io;
 use std::io::Write;
-
-// The most findings of a row.
-const MOST_FINDINGS: usize = 16;
-
-// What the findings memory holds before the first check.
-const NO_FINDING: Finding = Finding {
-    row: 0,
-    rule: Rule::AdmittedLength,
-    side: Side::Whole,
-    weight: Weight::Breach,
-};
 
 /// The one open sheet, where a road was opened, with the memory that it lies in and the limits in force for it. A command that is refused or wrong changes nothing.
 #[derive(Drop)]
@@ -49,9 +31,9 @@ impl Desk {
     ghost use Rattle.std.specs.Io.KnownBytes.{Appends};
     ghost use Rattle.choice.specs.declared.in_force.LimitsInForce.TheVariants.{Compulsory, Named};
     ghost use Rattle.desk.specs.Desk.{Labels, Opens, IsOpen, sheet_on, limits_on, rows_in, findings_in, with_limits};
-    ghost use Rattle.desk.specs.Calling.{CalledOn};
-    ghost use Rattle.desk.specs.Printing.{listing_of};
-    ghost use Rattle.desk.specs.Reporting.{Reports};
+    ghost use Rattle.desk.specs.Calls.{CalledOn};
+    ghost use Rattle.desk.specs.Texts.{listing_of};
+    ghost use Rattle.desk.specs.Reports.{Reports};
 
     /// A desk with no sheet, and room for the most rows, 4,000, and for sixteen findings of each, the most of a row.
     pub fn new(heap: Global) -> Result<Desk, AllocError>
@@ -61,29 +43,29 @@ impl Desk {
             sheet: None,
             limits: LimitsInForce::Compulsory,
             rows: vec![in heap; RowRecord::BLANK; MOST_ROWS]?,
-            findings: vec![in heap; NO_FINDING; MOST_ROWS * MOST_FINDINGS]?,
+            findings: vec![in heap; Finding::UNUSED; MOST_ROWS * MOST_FINDINGS]?,
         })
     }
 
     /// Lays a sheet of a road on the desk, in place of the one before and under the compulsory limits. A road that is refused leaves what was there.
-    pub fn open(&mut self, design: RoadDesign) -> Result<Answer, Failure>
+    pub fn open(&mut self, design: RoadDesign) -> Result<LineAnswer, Failure>
         ensures { Opens design self.old self.new result }
     {
         let road = Road::open(design)?;
         self.sheet = Some(Sheet::open(road));
         self.limits = LimitsInForce::Compulsory;
-        Ok(Answer::Opened(road))
+        Ok(LineAnswer::Opened(road))
     }
 
     /// The label of a curve on the sheet's road: its radius in mm, its turn in ten-thousandths of a gon. One outside its range is refused; without a sheet there is no label.
-    pub fn label(&self, radius: u32, turn: u32) -> Result<Answer, Failure>
+    pub fn label(&self, radius: u32, turn: u32) -> Result<LineAnswer, Failure>
         ensures { Labels radius turn (sheet_on self.now) result }
     {
         let Some(sheet) = &self.sheet else {
             return Err(Failure::NoRoad(Name::Label));
         };
         let label = Label::at(&sheet.road(), radius, turn)?;
-        Ok(Answer::Labelled {
+        Ok(LineAnswer::Labelled {
             radius,
             turn,
             label,

@@ -5,29 +5,22 @@ ghost use Rattle.plain.specs.Sheet.{fitted, check as asking};
 ghost use Rattle.sheet.specs.States.{listed, Untouched, OnlyLooks};
 ghost use Rattle.series.specs.Calls.{mark_of, stands, told};
 ghost use Rattle.wording.specs.Lines.{explained_text};
-ghost use Rattle.report.specs.Explaining.{LinesOf};
+ghost use Rattle.report.specs.Explanations.{LinesOf};
 ghost use Rattle.report.specs.Findings.{FindingsBelow};
 ghost use Rattle.desk.specs.Desk.{meaning_of};
 ghost use Rattle.desk.specs.Views.{road_on, records_on, rows_on, shown_on, AsReport};
-ghost use Rattle.report.specs.WritesText.{WritesText};
-ghost use Rattle.desk.specs.Printing.{rows_text, SetOutList, Says, SaysDone, why_barred};
-ghost use Rattle.desk.specs.Reporting.{has_mark, SheetShown};
+ghost use Rattle.report.specs.Texts.{WritesText};
+ghost use Rattle.desk.specs.Texts.{rows_text, SetOutList, Says, SaysDone, why_barred};
+ghost use Rattle.desk.specs.Reports.{has_mark, SheetShown};
 
-use answers::answer::Answer;
-use answers::failure::Failure;
-use answers::refused::RefusedLine;
-use answers::set_out::SetOut;
-use answers::shown_row::ShownRow;
-use choice::in_force::LimitsInForce;
-use commands::command::{Command, SheetCommand};
-use commands::name::Name;
-use findings::finding::Finding;
-use report::writing::Report;
-use road::refusal::Refusal;
-use road::road::Road;
-use rows::record::RowRecord;
-use series::any_sheet::Sheet;
-use series::outcome::Outcome;
+use answers::{Failure, LineAnswer, RefusedLine, SetOut, ShownRow};
+use choice::LimitsInForce;
+use commands::{Command, Name, SheetCommand};
+use findings::Finding;
+use report::Report;
+use road::{Refusal, Road};
+use rows::RowRecord;
+use series::{Outcome, Sheet};
 use std::io;
 use std::io::Write;
 
@@ -150,19 +143,19 @@ impl<'a> View<'a> {
         match command {
             SheetCommand::Add { before, .. } => {
                 let row = before.map_or(count.saturating_sub(1), |position| position as usize);
-                writeln!(out, "{}", Answer::Added { row })
+                writeln!(out, "{}", LineAnswer::Added { row })
             }
             SheetCommand::Remove { row } => {
-                writeln!(out, "{}", Answer::Removed { row: row as usize })
+                writeln!(out, "{}", LineAnswer::Removed { row: row as usize })
             }
             SheetCommand::Set { row, .. } => {
-                writeln!(out, "{}", Answer::LengthsSet { row: row as usize })
+                writeln!(out, "{}", LineAnswer::LengthsSet { row: row as usize })
             }
             SheetCommand::Fit => {
-                writeln!(out, "{}", Answer::Fitted { count })?;
+                writeln!(out, "{}", LineAnswer::Fitted { count })?;
                 self.write_set_out(out)
             }
-            SheetCommand::Reopen => writeln!(out, "{}", Answer::Reopened),
+            SheetCommand::Reopen => writeln!(out, "{}", LineAnswer::Reopened),
             // these are answered otherwise
             SheetCommand::Check | SheetCommand::Parameter { .. } => Ok(()),
         }
@@ -183,12 +176,12 @@ impl<'a> View<'a> {
             Outcome::Done => self.write_done(out, command),
             Outcome::Found(count) => {
                 self.write_findings(out, found)?;
-                writeln!(out, "{}", Answer::Found { count })
+                writeln!(out, "{}", LineAnswer::Found { count })
             }
             Outcome::Parameter(parameter) => match command {
                 SheetCommand::Parameter { row, at } => {
                     let row = row as usize;
-                    writeln!(out, "{}", Answer::Parameter { row, at, parameter })
+                    writeln!(out, "{}", LineAnswer::Parameter { row, at, parameter })
                 }
                 // only that command is answered so
                 _ => Ok(()),

@@ -4,7 +4,7 @@ use Rattle.std.proofs.lemmas.Bool.{leb-true, leb-false, ltb-true, ltb-false}
 use Rattle.std.proofs.lemmas.Bool.Decides.{Decides-and, Decides-like, Decides-ltb}
 use Rattle.road.specs.declared.road.Road.{Road}
 use Rattle.figures.specs.Radii.{Tabled, Follows}
-use Rattle.figures.specs.Tests.{tabled, follows}
+use Rattle.figures.specs.Tests.{is_tabled_lem, follows_radius_lem}
 use Rattle.figures.proofs.Tests.{decides_leb}
 
 decides_cond : {P : Type 0} (b x y : Bool) → (b ≡ true → Decides x P) → (b ≡ false → Decides y P) → Decides (cond b x y) P
@@ -67,7 +67,7 @@ module _ (r next : ℕ) where
         widest = λ _. enough;
       }) (λ t. t.widest low) (decides_leb 700_000 next)
 
-  decides_tabled : Decides (tabled r next) (Tabled r next)
+  decides_tabled : Decides (is_tabled_lem r next) (Tabled r next)
   decides_tabled =
       decides_cond (ltb r 50_000) _ _ (λ e. unlisted (ltb-true r 50_000 e)) (λ past_none.
       decides_cond (leb r 450_000) _ _ (λ e. tight_decides (ltb-false r 50_000 past_none) (leb-true r 450_000 e)) (λ past_tight.
@@ -75,9 +75,9 @@ module _ (r next : ℕ) where
       decides_cond (leb r 1_800_000) _ _ (λ e. wide_decides (leb-false r 700_000 past_middle) (leb-true r 1_800_000 e)) (λ past_wide.
       widest_decides (leb-false r 1_800_000 past_wide)))))
 
-pub decides_follows : (road : Road) (run r next : ℕ) → Decides (follows road run r next) (Follows road run r next)
+pub decides_follows : (road : Road) (run r next : ℕ) → Decides (follows_radius_lem road run r next) (Follows road run r next)
 decides_follows road run r next =
-    decides_cond (leb run road.limited_run) (tabled r next) _
+    decides_cond (leb run road.limited_run) (is_tabled_lem r next) _
     (λ e. let within = leb-true run road.limited_run e in
     Decides-like _ (λ t. record { near = λ _. t; far = λ longer. absurd (let z : ⊥ = omega arith in z) }) (λ f. f.near within) (decides_tabled r next))
     (λ e. let longer = leb-false run road.limited_run e in

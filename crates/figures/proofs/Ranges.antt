@@ -5,7 +5,7 @@ use Rattle.road.specs.declared.road.Road.{Road}
 use Rattle.limits.specs.Least.{Smallest}
 use Rattle.figures.specs.Radii.{Tabled, Follows, WideEnough}
 use Rattle.figures.specs.declared.range.NextRadius.{NextRadius}
-use Rattle.figures.specs.Ranges.{RangeOf, divided_up, from_least_lem, tabled_lem, next_radius_lem, least_radius_lem}
+use Rattle.figures.specs.Ranges.{RangeOf, divided_up, from_least_lem, tabled_radii_lem, next_radius_lem, least_radius_lem}
 use Rattle.figures.proofs.Quotients.{rounded_up}
 
 by_test : {Keeps : ℕ → Type 0} (b : Bool) (x y : NextRadius) → (b ≡ true → RangeOf Keeps x) → (b ≡ false → RangeOf Keeps y) → RangeOf Keeps (cond b x y)
@@ -68,7 +68,7 @@ module _ (r : ℕ) where
     complete = λ next keeps. (keeps.widest low, tt);
   }
 
-pub tabled_is : (r : ℕ) → RangeOf (Tabled r) (tabled_lem r)
+pub tabled_is : (r : ℕ) → RangeOf (Tabled r) (tabled_radii_lem r)
 tabled_is r =
     by_test (ltb r 50_000) _ _ (λ e. unlisted r (ltb-true r 50_000 e)) (λ e0. let low = ltb-false r 50_000 e0 in
     by_test (leb r 450_000) _ _ (λ e. tight r low (leb-true r 450_000 e)) (λ e1. let above = leb-false r 450_000 e1 in

@@ -5,7 +5,7 @@ use Rattle.std.proofs.lemmas.Bool.Decides.{Decides-and, Decides-ltb}
 use Rattle.rows.specs.declared.row.Curve.{Curve}
 use Rattle.figures.specs.Lengths.{AtMostHalfMore, Harmonious, LeavesArc}
 use Rattle.figures.specs.Radii.{Cramped}
-use Rattle.figures.specs.Tests.{exceeds, harmonious, arcless, cramped}
+use Rattle.figures.specs.Tests.{exceeds_longest_lem, are_harmonious_lem, leaves_no_arc_lem, is_cramped_lem}
 
 pub decides_leb : (a b : ℕ) → Decides (leb a b) (a ≤ b)
 decides_leb a b = (leb-true a b, le-leb a b)
@@ -17,18 +17,18 @@ pub decides_not_up_to : (a b : ℕ) → Decides (ltb b a) (a ≤ b → ⊥)
 decides_not_up_to a b = (λ e h. let lt = ltb-true b a e in omega arith, λ h. lt-ltb b a (omega (arith, h)))
 
 -- rule 2
-pub decides_exceeds : (least length : ℕ) → Decides (exceeds least length) (AtMostHalfMore least length → ⊥)
+pub decides_exceeds : (least length : ℕ) → Decides (exceeds_longest_lem least length) (AtMostHalfMore least length → ⊥)
 decides_exceeds least length = decides_not_up_to (2 * length) (3 * least)
 
 -- rule 5
-pub decides_harmonious : (exit entry : ℕ) → Decides (harmonious exit entry) (Harmonious exit entry)
+pub decides_harmonious : (exit entry : ℕ) → Decides (are_harmonious_lem exit entry) (Harmonious exit entry)
 decides_harmonious exit entry = Decides-and _ _ (decides_leb (2 * entry) (3 * exit)) (decides_leb (2 * exit) (3 * entry))
 
 -- rule 6
-pub decides_arcless : (c : Curve) → Decides (arcless c) (LeavesArc c → ⊥)
+pub decides_arcless : (c : Curve) → Decides (leaves_no_arc_lem c) (LeavesArc c → ⊥)
 decides_arcless c = decides_not_above (c.turn * c.radius) (318_300 * (c.entry + c.exit))
 
 -- rule 9
-pub decides_cramped : (c : Curve) → Decides (cramped c) (Cramped c)
+pub decides_cramped : (c : Curve) → Decides (is_cramped_lem c) (Cramped c)
 decides_cramped c =
     Decides-and _ _ (Decides-ltb c.turn 60_000) (decides_not_up_to (1_591_500 * (130_000 - c.turn)) (c.radius * c.turn))

@@ -31,16 +31,16 @@ pub record Exactly (Keeps : ℕ → Type 0) (low high : ℕ) : Type 0 where
 -- The same, computed. The contracts show that these are the figures of the rules.
 
 -- The longest clothoid by the least admitted length: one and a half times that, rounded down.
-abbrev pub longest_of : (least : ℕ) → ℕ
-longest_of least = 3 * least / 2
+abbrev pub longest_length_lem : (least : ℕ) → ℕ
+longest_length_lem least = 3 * least / 2
 
 -- The lengths beside another: from two thirds of it, rounded up, to one and a half times it, rounded down.
-abbrev pub least_beside : ℕ → ℕ
-least_beside length = (2 * length + 2) / 3
+abbrev pub least_beside_lem : ℕ → ℕ
+least_beside_lem length = (2 * length + 2) / 3
 
-abbrev pub longest_beside : ℕ → ℕ
-longest_beside length = 3 * length / 2
+abbrev pub longest_beside_lem : ℕ → ℕ
+longest_beside_lem length = 3 * length / 2
 
 -- The longest that a curve's clothoids can be together so that an arc is left.
-abbrev pub longest_pair_of : Curve → ℕ
-longest_pair_of c = (c.turn * c.radius - 1) / 318_300
+abbrev pub longest_pair_lem : Curve → ℕ
+longest_pair_lem c = (c.turn * c.radius - 1) / 318_300

@@ -25,8 +25,8 @@ abbrev pub from_least_lem : ℕ → NextRadius
 from_least_lem least = record { least = least; greatest = None }
 
 -- Table 4.7.
-abbrev pub tabled_lem : (r : ℕ) → NextRadius
-tabled_lem r =
+abbrev pub tabled_radii_lem : (r : ℕ) → NextRadius
+tabled_radii_lem r =
     cond (nat_lt r 50_000) (from_least_lem 0)
     (cond (nat_le r 450_000) (record { least = divided_up (50 * r + 600_600) 77; greatest = Some ((127 * r - 1_152_001) / 80) })
     (cond (nat_le r 700_000) (record { least = divided_up (40 * r + 22_504_500) 135; greatest = Some ((110 * r - 32_000_001) / 25) })
@@ -35,7 +35,7 @@ tabled_lem r =
 -- The radii that may follow r over a run.
 abbrev pub next_radius_lem : Road → (run r : ℕ) → NextRadius
 next_radius_lem road run r =
-    cond (nat_le run road.limited_run) (tabled_lem r) (from_least_lem road.radius_after_run)
+    cond (nat_le run road.limited_run) (tabled_radii_lem r) (from_least_lem road.radius_after_run)
 
 -- The least radius that is wide enough for a turn.
 abbrev pub least_radius_lem : (turn : ℕ) → ℕ

@@ -1,14 +1,13 @@
-// Radii: rules 8 and 9. Each range is found by divisions, which the tests do without.
+//! Radii: rules 8 and 9. Each range is found by divisions, which the tests do without.
 ghost use Rattle.std.specs.Prelude.{◌≡◌, Decides};
 ghost use Rattle.limits.specs.Least.{Smallest};
 ghost use Rattle.figures.specs.Radii.{Tabled, Follows, WideEnough, Cramped};
-ghost use Rattle.figures.specs.Ranges.{RangeOf, tabled_lem, next_radius_lem, least_radius_lem};
-ghost use Rattle.figures.specs.Tests.{tabled, follows, cramped};
+ghost use Rattle.figures.specs.Ranges.{RangeOf, tabled_radii_lem, next_radius_lem, least_radius_lem};
+ghost use Rattle.figures.specs.Tests.{is_tabled_lem, follows_radius_lem, is_cramped_lem};
 
 use crate::range::NextRadius;
-use road::road::Road;
-use rows::curve::CALLING_TURN;
-use rows::row::Curve;
+use road::Road;
+use rows::{CALLING_TURN, Curve};
 
 // Rule 9: the radius times the turn against what the turn lacks.
 const FOR_A_SMALL_TURN: u64 = 1_591_500;
@@ -18,7 +17,7 @@ const NO_SMALL_TURN: u64 = 130_000;
 // Table 4.7; it says nothing of radii below 50 m.
 #[inline(always)]
 fn is_tabled(radius: u32, next: u32) -> bool
-    ensures { result ≡ tabled radius next }
+    ensures { result ≡ is_tabled_lem radius next }
 {
     let r = radius as u64;
     let next = next as u64;
@@ -37,7 +36,7 @@ fn is_tabled(radius: u32, next: u32) -> bool
 
 // The radii that may follow by Table 4.7.
 fn tabled_radii(radius: u32) -> NextRadius
-    ensures value { result ≡ tabled_lem radius }
+    ensures value { result ≡ tabled_radii_lem radius }
     ensures range { RangeOf (Tabled radius) result }
 {
     let r = radius as u64;
@@ -63,7 +62,7 @@ fn tabled_radii(radius: u32) -> NextRadius
 /// Rule 8 (4.5): whether a radius may be followed by the next, over a run of that length, 0 where there is none.
 #[inline(always)]
 pub fn follows_radius(road: &Road, run: u64, radius: u32, next: u32) -> bool
-    ensures value { result ≡ follows road.now run radius next }
+    ensures value { result ≡ follows_radius_lem road.now run radius next }
     ensures decides { Decides result (Follows road.now run radius next) }
 {
     if run <= road.limited_run as u64 {
@@ -88,7 +87,7 @@ pub fn next_radius(road: &Road, run: u64, radius: u32) -> NextRadius
 /// Rule 9 (4.4.8): whether a curve of a small turn is not wide enough.
 #[inline(always)]
 pub fn is_cramped(curve: Curve) -> bool
-    ensures value { result ≡ cramped curve }
+    ensures value { result ≡ is_cramped_lem curve }
     ensures decides { Decides result (Cramped curve) }
 {
     curve.turn < CALLING_TURN

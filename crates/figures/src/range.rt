@@ -1,4 +1,4 @@
-// A range of radii.
+//! A range of radii.
 ghost use Rattle.std.specs.Prelude.{◌≡◌};
 ghost use Rattle.figures.specs.Ranges.{from_least_lem};
 

@@ -1,9 +1,9 @@
-// Runs of straights: rules 10 and 11.
+//! Runs of straights: rules 10 and 11.
 ghost use Rattle.std.specs.Prelude.{◌≡◌};
 ghost use Rattle.figures.specs.Runs.{shortest_run_lem, longest_run_lem};
 
-use road::road::Road;
-use rows::row::Sense;
+use road::Road;
+use rows::Sense;
 
 /// Rule 10 (4.2.1): the shortest run between two curves of those senses, mm.
 #[inline(always)]

@@ -4,7 +4,7 @@ use Rattle.std.proofs.lemmas.List.{at_drop_all, append_assoc, length-append, len
 use Rattle.std.specs.List.{sum_by}
 use Rattle.std.proofs.lemmas.List.Sums.{sum_by-cons}
 use Rattle.rows.specs.declared.row.Row.{Row}
-use Rattle.rows.specs.Reading.{row_of}
+use Rattle.rows.specs.Records.{row_of}
 use Rattle.road.specs.declared.road.Road.{Road}
 use Rattle.findings.specs.declared.walk.Context.{Context}
 use Rattle.findings.specs.declared.walk.Flank.{Flank}

@@ -9,7 +9,7 @@ use Rattle.roll.specs.declared.Roll.{Roll}
 use Rattle.roll.specs.Edits as roll
 use Rattle.rows.specs.declared.record.RowRecord.{RowRecord}
 use Rattle.rows.specs.declared.row.Row.{Row}
-use Rattle.rows.specs.Reading.{row_of}
+use Rattle.rows.specs.Records.{row_of}
 use Rattle.findings.specs.declared.finding.Finding.{Finding}
 use Rattle.findings.specs.Findings.{FindingsOf, Written}
 use Rattle.findings.specs.Reports.{Put}

@@ -1,6 +1,6 @@
 -- The rows that a walk has left, and the findings of an alignment, under the limit's admission. Only private contracts cite this.
 use Rattle.std.specs.Prelude.{List, map}
-use Rattle.rows.specs.Reading.{row_of}
+use Rattle.rows.specs.Records.{row_of}
 use Rattle.findings.specs.declared.alignment.Alignment.{Alignment}
 use Rattle.findings.specs.declared.walk.Walk.{Walk}
 use Rattle.findings.specs.declared.finding.Finding.{Finding}

@@ -9,7 +9,7 @@ use Rattle.rows.specs.declared.row.Straight.{Straight}
 use Rattle.rows.specs.Curves.{place_of}
 use Rattle.rows.specs.Leasts.{least_in}
 use Rattle.figures.specs.Runs.{shortest_run_lem, longest_run_lem}
-use Rattle.figures.specs.Tests.{exceeds, harmonious, arcless, follows, cramped}
+use Rattle.figures.specs.Tests.{exceeds_longest_lem, are_harmonious_lem, leaves_no_arc_lem, follows_radius_lem, is_cramped_lem}
 use Rattle.findings.specs.declared.finding.Finding.{Finding}
 use Rattle.findings.specs.declared.kind.Kind.{Kind}
 use Rattle.findings.specs.declared.kind.Kind.TheVariants.{UnadmittedEntry, UnadmittedExit, LongEntry, LongExit, UncalledEntry, UncalledExit, Unequal, Disharmony, NoArc, TightRadius, NextRadius, ReturnRadius, SmallTurn, ShortRun, LongRun, SlightTurn}
@@ -67,7 +67,7 @@ unadmitted (Called (Some least)) length = nat_lt length least
 abbrev pub is_too_long : Clothoids → ℕ → Bool
 is_too_long Uncalled length = false
 is_too_long (Called None) length = false
-is_too_long (Called (Some least)) length = exceeds least length
+is_too_long (Called (Some least)) length = exceeds_longest_lem least length
 
 abbrev pub uncalled_for : Clothoids → ℕ → Bool
 uncalled_for Uncalled length = not (length == 0)
@@ -78,7 +78,7 @@ unequal road c = road.symmetric && not (c.entry == c.exit)
 
 abbrev pub discordant : Road → Option Curve → Curve → Bool
 discordant road None c = false
-discordant road (Some b) c = calls road b && not (harmonious b.exit c.entry)
+discordant road (Some b) c = calls road b && not (are_harmonious_lem b.exit c.entry)
 
 abbrev pub disharmonious : Road → Clothoids → Flank → Curve → Bool
 disharmonious road Uncalled behind c = false
@@ -86,7 +86,7 @@ disharmonious road (Called least) behind c = begins behind && discordant road be
 
 abbrev pub strays : Road → Option Curve → ℕ → Curve → Bool
 strays road None run c = false
-strays road (Some b) run c = not (follows road run b.radius c.radius)
+strays road (Some b) run c = not (follows_radius_lem road run b.radius c.radius)
 
 abbrev pub short_between : Road → Option Curve → ℕ → Option Curve → Bool
 short_between road None run next = false
@@ -103,11 +103,11 @@ curve_breaks_lem road UncalledEntry at c = uncalled_for at.clothoids c.entry
 curve_breaks_lem road UncalledExit at c = uncalled_for at.clothoids c.exit
 curve_breaks_lem road Unequal at c = unequal road c
 curve_breaks_lem road Disharmony at c = disharmonious road at.clothoids at.behind c
-curve_breaks_lem road NoArc at c = arcless c
+curve_breaks_lem road NoArc at c = leaves_no_arc_lem c
 curve_breaks_lem road TightRadius at c = nat_lt c.radius road.least_radius
 curve_breaks_lem road NextRadius at c = strays road at.behind.curve at.behind.run c
 curve_breaks_lem road ReturnRadius at c = road.both_senses && strays road at.ahead.curve at.ahead.run c
-curve_breaks_lem road SmallTurn at c = cramped c
+curve_breaks_lem road SmallTurn at c = is_cramped_lem c
 curve_breaks_lem road ShortRun at c = false
 curve_breaks_lem road LongRun at c = false
 curve_breaks_lem road SlightTurn at c = nat_lt c.turn 20_000

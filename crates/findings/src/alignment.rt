@@ -2,13 +2,12 @@
 ghost use Rattle.std.specs.Prelude.{◌≡◌, ◌≤◌, length, nat_le};
 
 use crate::finding::Finding;
-use crate::kind::Kind;
-use crate::kinds::KINDS;
+use crate::kind::{KINDS, Kind};
 use crate::walk::{Context, Flank, Walk};
-use limits::limit::Limit;
-use road::road::Road;
+use limits::Limit;
+use road::Road;
 use roll::{Roll, RollRefusal};
-use rows::record::RowRecord;
+use rows::RowRecord;
 
 // A road, the limit of its clothoids, and the rows of a sheet.
 #[derive(Drop)]

@@ -1,14 +1,13 @@
 // What lies behind a row and ahead of it, and what its clothoids are held to.
 ghost use Rattle.std.specs.Prelude.{◌≡◌, ◌+◌, ◌≤◌, map, length, if◌then◌else◌};
-ghost use Rattle.rows.specs.Reading.{row_of};
+ghost use Rattle.rows.specs.Records.{row_of};
 ghost use Rattle.findings.specs.Walk.{nothing, past, reached, begins, clothoids_of, context_of};
 ghost use Rattle.rows.specs.declared.row.Row.TheVariants as row;
 
 use crate::walk::{Clothoids, Context, Flank};
-use limits::limit::Limit;
-use road::road::Road;
-use rows::record::RowRecord;
-use rows::row::{Curve, Row};
+use limits::Limit;
+use road::Road;
+use rows::{Curve, Row, RowRecord};
 
 impl Flank {
     // What lies behind, one row on.

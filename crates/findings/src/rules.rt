@@ -6,8 +6,8 @@ ghost use Rattle.findings.specs.Walk.{unadmitted, is_too_long, uncalled_for, une
 use crate::kind::Kind;
 use crate::walk::{Clothoids, Context, Flank};
 use figures::{ADVISED_TURN, lengths, radii, runs};
-use road::road::Road;
-use rows::row::{Curve, Row, Straight};
+use road::Road;
+use rows::{Curve, Row, Straight};
 
 // Rule 1. A length is admitted from the least on.
 fn is_unadmitted(clothoids: Clothoids, length: u32) -> bool

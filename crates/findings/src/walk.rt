@@ -1,10 +1,9 @@
 // A walk along the rows of a sheet, and what it knows at each of them.
 ghost use Rattle.std.specs.Prelude.{◌+◌, ◌*◌, ◌≤◌, length};
 
-use limits::limit::Limit;
-use road::road::Road;
-use rows::record::RowRecord;
-use rows::row::{Curve, Row};
+use limits::Limit;
+use road::Road;
+use rows::{Curve, Row, RowRecord};
 
 /// What lies on one side of a row: the nearest curve there, and the length of the run up to it, or up to the sheet's end, mm.
 /// A run is neighbouring straights, and its length is their sum; 0 where there are none.

@@ -12,14 +12,14 @@ use Rattle.rows.specs.declared.row.Row.{Row}
 use Rattle.rows.specs.declared.row.Row.TheVariants as row
 use Rattle.rows.specs.Curves.{place_of}
 use Rattle.rows.specs.Leasts.{first_in, least_in}
-use Rattle.rows.specs.Reading.{row_of}
+use Rattle.rows.specs.Records.{row_of}
 use Rattle.findings.specs.Rules.{Admission}
 use Rattle.findings.specs.Walk.{calls}
 use Rattle.fitting.specs.declared.demand.Demand.{Demand}
 use Rattle.fitting.specs.declared.demand.Demand.TheVariants.{Free, Called}
 use Rattle.fitting.specs.declared.demand.Lengths.{Lengths}
 use Rattle.fitting.specs.Demands.{bounds, demand, lengths}
-use Rattle.figures.specs.Lengths.{least_beside}
+use Rattle.figures.specs.Lengths.{least_beside_lem}
 use Rattle.fitting.specs.Passes.{low_lem, first, asks, least_asked, Kept, raised, step, decide, started, body_by, body, only_of, demands, all_lengths}
 use Rattle.plain.specs.Lengths.{AlikeRow, Alike}
 use Rattle.fitting.proofs.SubjectRows.{alike_demands}
@@ -46,11 +46,11 @@ either_within : (b : Bool) (x y : ℕ) → x ≤ 2_000_000 → y ≤ 2_000_000 �
 either_within true x y p q = p
 either_within false x y p q = q
 
-pub beside_short : (x : ℕ) → x ≤ 2_000_000 → least_beside x ≤ 2_000_000
+pub beside_short : (x : ℕ) → x ≤ 2_000_000 → least_beside_lem x ≤ 2_000_000
 beside_short x h = omega (arith, beside_le x)
 
 -- a row that asks no clothoids asks nothing of the next entry either
-asks_first : (a : ℕ) (d : Demand) → least_beside (first a d).exit ≡ asks d (first a d)
+asks_first : (a : ℕ) (d : Demand) → least_beside_lem (first a d).exit ≡ asks d (first a d)
 asks_first a Free = refl
 asks_first a (Called b) = refl
 
@@ -203,8 +203,8 @@ module _ (road : Road) (admission : Admission) where
   raised_short a r l e h = rw e (raised_row a r h)
 
   -- what a row asks of the next entry
-  pub asks_is : (a a' : ℕ) (r : Row) (l : Lengths) → l ≡ first a (demand road admission r) → a' ≡ least_beside l.exit → a' ≡ asks (demand road admission r) l
-  asks_is a a' r l e f = f ∙ ap (λ m. least_beside m.exit) e ∙ asks_first a (demand road admission r) ∙ ap (asks (demand road admission r)) (sym e)
+  pub asks_is : (a a' : ℕ) (r : Row) (l : Lengths) → l ≡ first a (demand road admission r) → a' ≡ least_beside_lem l.exit → a' ≡ asks (demand road admission r) l
+  asks_is a a' r l e f = f ∙ ap (λ m. least_beside_lem m.exit) e ∙ asks_first a (demand road admission r) ∙ ap (asks (demand road admission r)) (sym e)
 
   -- forward, one record more
   pub start_more : (i a a' : ℕ) (l : Lengths) (r : Row) (q : Demand) (x y d : RowRecord) (xs ys : List RowRecord) (all : List Lengths) → i < length xs
@@ -233,7 +233,7 @@ module _ (road : Road) (admission : Admission) where
 
   -- backward, one record more
   pub push_more : (i j a a' : ℕ) (l : Lengths) (r : Row) (x y d : RowRecord) (xs ys : List RowRecord) → i ≡ j + 1 → j < length xs → x ≡ get_or xs j d
-      → r ≡ row_of x → l ≡ raised a (demand road admission r) (lengths r) → a' ≡ least_beside l.entry → lengths (row_of y) ≡ only_of (row_of x) l
+      → r ≡ row_of x → l ≡ raised a (demand road admission r) (lengths r) → a' ≡ least_beside_lem l.entry → lengths (row_of y) ≡ only_of (row_of x) l
       → map body xs ≡ map body ys → Pushed (demands road admission ys) (all_lengths ys) (all_lengths xs) i a
       → Pushed (demands road admission ys) (all_lengths ys) (all_lengths (set xs j y)) j a'
   push_more i j a a' l r x y d xs ys z h is u e f w s g =

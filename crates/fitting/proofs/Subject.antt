@@ -20,7 +20,7 @@ use Rattle.findings.specs.Around.{EndWith}
 use Rattle.findings.specs.Findings.{rule_number, rule_of, finding_of}
 use Rattle.findings.specs.Rules.{Admission, BrokenByCurve, Broken}
 use Rattle.findings.specs.Walk.{calls}
-use Rattle.figures.specs.Lengths.{LeavesArc, longest_pair_of}
+use Rattle.figures.specs.Lengths.{LeavesArc, longest_pair_lem}
 use Rattle.findings.proofs.Clothoids.{decides_calls}
 use Rattle.plain.specs.Lengths.{Keeps}
 use Rattle.fitting.specs.declared.demand.Demand.TheVariants.{Free, Called}
@@ -74,10 +74,10 @@ room_in k n h = omega arith
 room_out : (k n : ℕ) → 0 < k → n ≤ (k - 1) / 318_300 → 318_300 * n < k
 room_out k n h i = omega arith
 
-pub arc_in : (c : Curve) → LeavesArc c → c.entry + c.exit ≤ longest_pair_of c
+pub arc_in : (c : Curve) → LeavesArc c → c.entry + c.exit ≤ longest_pair_lem c
 arc_in c h = room_in (c.turn * c.radius) (c.entry + c.exit) h
 
-pub arc_out : (c : Curve) → c.entry + c.exit ≤ longest_pair_of c → LeavesArc c
+pub arc_out : (c : Curve) → c.entry + c.exit ≤ longest_pair_lem c → LeavesArc c
 arc_out c h =
     let turns : 0 < c.turn = omega (arith, c.within.1.0.0) in
     let bends : 0 < c.radius = omega (arith, c.within.0.0) in

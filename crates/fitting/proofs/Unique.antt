@@ -7,7 +7,7 @@ use Rattle.rows.proofs.Fits.{read_back}
 use Rattle.rows.specs.declared.record.RowRecord.TheVariants as stored
 use Rattle.rows.specs.declared.row.Row.{Row}
 use Rattle.rows.specs.declared.row.Row.TheVariants as row
-use Rattle.rows.specs.Reading.{row_of, record_of}
+use Rattle.rows.specs.Records.{row_of, record_of}
 use Rattle.findings.specs.Rules.{Admission}
 use Rattle.plain.specs.Lengths.{AlikeRow, Alike, NoLongerRow, NoLonger, LeastLengths, SomeLengths, NoLengths, FirstWithout}
 use Rattle.fitting.specs.Demands.{lengths}

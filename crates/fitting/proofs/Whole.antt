@@ -7,13 +7,13 @@ use Rattle.rows.specs.declared.record.RowRecord.{RowRecord}
 use Rattle.rows.specs.declared.row.Row.{Row}
 use Rattle.rows.specs.declared.row.Row.TheVariants as row
 use Rattle.rows.specs.declared.row.Straight.{Straight}
-use Rattle.rows.specs.Reading.{row_of}
+use Rattle.rows.specs.Records.{row_of}
 use Rattle.findings.specs.Rules.{Admission}
 use Rattle.fitting.specs.declared.reach.Reach.TheVariants as reach
 use Rattle.fitting.specs.Fits.{OnlyCurves, Fits}
 use Rattle.fitting.specs.Passes.{decide, started, pushed, fitted, body_by, body, demands, all_lengths}
 use Rattle.fitting.proofs.Walk.{LeastWalk}
-use Rattle.fitting.proofs.Fitting.{Answer, answer}
+use Rattle.fitting.proofs.Fitting.{Decided, decided}
 use Rattle.fitting.proofs.InPlace.{alike_bodies, demands_same}
 use Rattle.fitting.proofs.Loops.{fitted_is}
 use Rattle.fitting.proofs.SubjectRows.{carried_least, carried_refusal, carried_none}
@@ -34,8 +34,8 @@ only_curves (x ∷ xs) (y ∷ ys) e =
     (only_row x y (row_of x) (row_of y) h, only_curves xs ys t)
 
 module _ (road : Road) (admission : Admission) (lawful : (place : Place) → UpToLongest (admission place)) where
-  answered : (before : List RowRecord) (o : Option ℕ) → o ≡ decide 0 reach.Free (demands road admission before) → Answer (demands road admission before) o
-  answered before o is = subst (Answer (demands road admission before)) (sym is) (answer (demands road admission before))
+  answered : (before : List RowRecord) (o : Option ℕ) → o ≡ decide 0 reach.Free (demands road admission before) → Decided (demands road admission before) o
+  answered before o is = subst (Decided (demands road admission before)) (sym is) (decided (demands road admission before))
 
   pub fits_none : (before : List RowRecord) (n : ℕ) → Some n ≡ decide 0 reach.Free (demands road admission before) → Fits road admission before before (Err n)
   fits_none before n is =

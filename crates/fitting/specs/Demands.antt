@@ -6,7 +6,7 @@ use Rattle.rows.specs.declared.row.Row.{Row}
 use Rattle.rows.specs.declared.row.Row.TheVariants as row
 use Rattle.rows.specs.Curves.{place_of}
 use Rattle.rows.specs.Leasts.{least_in}
-use Rattle.figures.specs.Lengths.{longest_pair_of}
+use Rattle.figures.specs.Lengths.{longest_pair_lem}
 use Rattle.findings.specs.Rules.{Admission}
 use Rattle.findings.specs.Walk.{calls}
 use Rattle.fitting.specs.declared.demand.Bounds.{Bounds}
@@ -21,7 +21,7 @@ bounds road admission c =
       entry = least_in (admission (place_of road c));
       exit = least_in (admission (place_of road c));
       even = road.symmetric;
-      room = longest_pair_of c;
+      room = longest_pair_lem c;
     }
 
 abbrev pub demand : Road → Admission → Row → Demand

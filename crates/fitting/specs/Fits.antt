@@ -5,7 +5,7 @@ use Rattle.road.specs.declared.road.Road.{Road}
 use Rattle.rows.specs.declared.record.RowRecord.{RowRecord}
 use Rattle.rows.specs.declared.row.Row.TheVariants as row
 use Rattle.rows.specs.declared.row.Straight.{Straight}
-use Rattle.rows.specs.Reading.{row_of}
+use Rattle.rows.specs.Records.{row_of}
 use Rattle.findings.specs.Rules.{Admission}
 use Rattle.plain.specs.Lengths.{LeastLengths, NoLengths, FirstWithout}
 

@@ -4,9 +4,9 @@ use Rattle.rows.specs.declared.record.RowRecord.{RowRecord}
 use Rattle.rows.specs.declared.row.Row.{Row}
 use Rattle.rows.specs.declared.row.Row.TheVariants as row
 use Rattle.rows.specs.declared.row.Sense.{Sense}
-use Rattle.rows.specs.Reading.{row_of}
+use Rattle.rows.specs.Records.{row_of}
 use Rattle.road.specs.declared.road.Road.{Road}
-use Rattle.figures.specs.Lengths.{longest_of, least_beside, longest_beside}
+use Rattle.figures.specs.Lengths.{longest_length_lem, least_beside_lem, longest_beside_lem}
 use Rattle.findings.specs.Rules.{Admission}
 use Rattle.fitting.specs.Demands.{demand, lengths}
 use Rattle.fitting.specs.declared.demand.Bounds.{Bounds}
@@ -23,16 +23,16 @@ low_lem (Some m) = m
 
 abbrev pub high_lem : Option ℕ → ℕ
 high_lem None = 0
-high_lem (Some m) = min 2_000_000 (longest_of m)
+high_lem (Some m) = min 2_000_000 (longest_length_lem m)
 
 -- Forward: the lengths that the entry can have after a reach.
 abbrev pub from : Reach → Option ℕ → ℕ
 from reach.Free o = low_lem o
-from (reach.Exits a b) o = max (low_lem o) (least_beside a)
+from (reach.Exits a b) o = max (low_lem o) (least_beside_lem a)
 
 abbrev pub upto : Reach → Option ℕ → ℕ
 upto reach.Free o = high_lem o
-upto (reach.Exits a b) o = min (high_lem o) (longest_beside b)
+upto (reach.Exits a b) o = min (high_lem o) (longest_beside_lem b)
 
 -- Forward: the exits of a calling curve, if there are any.
 abbrev pub exits : Bool → Reach → Bounds → Option Reach
@@ -65,7 +65,7 @@ first a (Called b) =
 -- What a row asks of the next entry.
 abbrev pub asks : Demand → Lengths → ℕ
 asks Free l = 0
-asks (Called b) l = least_beside l.exit
+asks (Called b) l = least_beside_lem l.exit
 
 -- The least length that a row asks of its clothoids by itself: 0 of a row with none.
 abbrev pub least_asked : Demand → ℕ
@@ -86,7 +86,7 @@ raised a (Called b) l =
 -- What the first of the lengths asks of the exit before it: 0 of a row with no clothoids.
 abbrev pub asked : List Lengths → ℕ
 asked [] = 0
-asked (l ∷ ls) = least_beside l.entry
+asked (l ∷ ls) = least_beside_lem l.entry
 
 -- Forward on the way in, backward on the way out.
 abbrev pub fitted : ℕ → List Demand → List Lengths

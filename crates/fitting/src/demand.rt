@@ -1,17 +1,16 @@
 // What the rows of a sheet ask of their clothoids.
 ghost use Rattle.std.specs.Prelude.{◌≡◌, ℕ, ◌≤◌, Some};
-ghost use Rattle.figures.specs.Lengths.{longest_pair_of};
+ghost use Rattle.figures.specs.Lengths.{longest_pair_lem};
 ghost use Rattle.findings.specs.Rules.{Admission};
 ghost use Rattle.fitting.specs.Demands.{bounds, demand, lengths};
 ghost use Rattle.fitting.specs.Passes.{first, least_asked, raised, only_of, body};
-ghost use Rattle.rows.specs.Reading.{row_of};
+ghost use Rattle.rows.specs.Records.{row_of};
 
 use crate::reach::low;
 use figures::lengths::longest_pair;
-use limits::limit::Limit;
-use road::road::Road;
-use rows::record::RowRecord;
-use rows::row::{Curve, Row};
+use limits::Limit;
+use road::Road;
+use rows::{Curve, Row, RowRecord};
 
 // The bounds of a calling curve's two clothoids.
 #[derive(Clone, Copy)]
@@ -42,7 +41,7 @@ pub(crate) struct Lengths {
 
 // The greatest sum of entry and exit that leaves an arc.
 fn room_of(curve: Curve) -> u32
-    ensures { result ≡ longest_pair_of curve }
+    ensures { result ≡ longest_pair_lem curve }
 {
     longest_pair(curve) as u32
 }

@@ -8,10 +8,9 @@ mod passes;
 mod reach;
 
 use crate::passes::{first_without, push_back, start};
-use limits::limit::Limit;
-use road::road::Road;
-use rows::range::MOST_ROWS;
-use rows::record::RowRecord;
+use limits::Limit;
+use road::Road;
+use rows::{MOST_ROWS, RowRecord};
 
 /// Gives the curves the least lengths, mm, that keep the clothoid rules, 1 to 6, under the limit. Where there are none, it writes nothing,
 /// and answers the first row up to which no lengths keep them.

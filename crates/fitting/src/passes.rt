@@ -7,9 +7,9 @@ ghost use Rattle.fitting.specs.Passes.{decide, started, pushed, body, demands, a
 use crate::demand::{Demand, Lengths, set_lengths};
 use crate::reach::{Reach, low};
 use figures::lengths::least_beside;
-use limits::limit::Limit;
-use road::road::Road;
-use rows::record::RowRecord;
+use limits::Limit;
+use road::Road;
+use rows::RowRecord;
 
 // Keeps the least length that a row asks, where there is a slot for it.
 fn keep(leasts: &mut [u32], row: usize, least: u32)

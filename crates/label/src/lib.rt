@@ -3,16 +3,11 @@
 
 ghost use Rattle.label.specs.Labels.{Labelled, ParameterOf};
 
-use limits::limit::Limit;
-use limits::place::Place;
-use norma::azimuth::AzimuthLimit;
-use norma::comfort::ComfortLimit;
-use norma::compulsory::compulsory_length;
-use norma::fifth::FifthOfTurnLimit;
-use norma::shift::ShiftLimit;
-use norma::transition::TransitionLimit;
-use road::refusal::Refusal;
-use road::road::Road;
+use limits::{Limit, Place};
+use norma::{
+    AzimuthLimit, ComfortLimit, FifthOfTurnLimit, ShiftLimit, TransitionLimit, compulsory_length,
+};
+use road::{Refusal, Road};
 use roots::clothoid_parameter;
 
 /// What a drawing says of the clothoids of a curve. A least length is `None` where nothing is admitted.

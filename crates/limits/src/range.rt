@@ -1,9 +1,9 @@
-// The ranges of a curve's radius and turn, for every call that takes the two.
+//! The ranges of a curve's radius and turn, for every call that takes the two.
 ghost use Rattle.std.specs.Prelude.{MatchResult};
 ghost use Rattle.road.specs.Refusals.{Clear};
 ghost use Rattle.limits.specs.Places.{place_grounds, NoPlace};
 
-use road::range::OutOfRange;
+use road::OutOfRange;
 
 /// The radius of the tightest curve that a row may have, mm. The office's own; a road asks for more.
 pub const TIGHTEST_RADIUS: u32 = 1_000;

@@ -4,7 +4,7 @@ use Rattle.std.specs.Prelude.{◌≡◌, ℕ, ◌<◌, ◌≤◌, Bool, ◌⊎�
 use Rattle.std.specs.List.{insert, remove}
 use Rattle.roots.specs.Roots.{Parameter}
 use Rattle.road.specs.declared.road.Road.{Road}
-use Rattle.road.specs.Opening.{Outside}
+use Rattle.road.specs.Openings.{Outside}
 use Rattle.road.specs.Refusals.{Ground, ground, FirstApplying, Clear}
 use Rattle.limits.specs.declared.place.Place.{Place}
 use Rattle.limits.specs.Admission.{UpToLongest}
@@ -115,11 +115,15 @@ abbrev pub number_grounds : NewRow → List Ground → List Ground
 number_grounds (new.Straight length) others = ground 3 (Outside 1 20_000_000 length) ∷ others
 number_grounds (new.Curve sense radius turn) others = ground 4 (Outside 1_000 10_000_000 radius) ∷ ground 5 (Outside 1 2_000_000 turn) ∷ others
 
+-- The grounds for refusing another row, before the row at that position, whatever its numbers.
+abbrev pub room_grounds : (room count position : ℕ) → List Ground
+room_grounds room count position =
+    ground 7 (room < count) ∷ ground 8 (count < position) ∷ ground 10 ((4_000 ≤ count) ⊎ (room ≤ count)) ∷ []
+
 -- The grounds for refusing a call, by their numbers, on a sheet of `count` rows whose memory can hold `room`.
 -- Number 12 belongs to what fitting does, since it names a row of its own.
 abbrev pub grounds : (room count : ℕ) → Plain → Call → List Ground
-grounds room count s (add position row) =
-    number_grounds row (ground 7 (room < count) ∷ ground 8 (count < position) ∷ ground 10 ((4_000 ≤ count) ⊎ (room ≤ count)) ∷ [])
+grounds room count s (add position row) = number_grounds row (room_grounds room count position)
 grounds room count s (take_out row) = ground 7 (room < count) ∷ ground 8 (count ≤ row) ∷ []
 grounds room count s (set_lengths row entry exit) =
     ground 6 ((2_000_000 < entry) ⊎ (2_000_000 < exit)) ∷ ground 7 (room < count) ∷ ground 8 (count ≤ row) ∷ ground 9 (StraightAt s.rows row) ∷ []

@@ -46,10 +46,10 @@ seven_right n =
     shape before (before - before) (7 - length (decimal n)) (decimal n) (omega arith) (omega arith)
 
 -- what follows widens the column
-widened : (places more : ℕ) (text rest : List ℕ) → length rest ≡ more → on_the_right places text ++ rest ≡ on_the_right (places + more) (text ++ rest)
-widened places more text rest is =
-    let number : places - length text ≡ (places + more) - length (text ++ rest) = omega (arith, length-append text rest, is) in
-    append_assoc (replicate (places - length text) 32) text rest ∙ ap (λ k. replicate k 32 ++ (text ++ rest)) number
+widened : (width more : ℕ) (text rest : List ℕ) → length rest ≡ more → on_the_right width text ++ rest ≡ on_the_right (width + more) (text ++ rest)
+widened width more text rest is =
+    let number : width - length text ≡ (width + more) - length (text ++ rest) = omega (arith, length-append text rest, is) in
+    append_assoc (replicate (width - length text) 32) text rest ∙ ap (λ k. replicate k 32 ++ (text ++ rest)) number
 
 pub metres_right : (n : ℕ) → styled_decimal (format_spec 32 3 0 6 18446744073709551615) (n / 1_000) ++ (46 ∷ styled_decimal (format_spec 32 0 4 3 18446744073709551615) (n % 1_000)) ≡ metres_column n
 metres_right n =

@@ -7,19 +7,19 @@ use Rattle.std.proofs.lemmas.Fmt.{decimal_digit}
 use Rattle.road.specs.declared.road.Road.{Road}
 use Rattle.rows.specs.declared.record.RowRecord.{RowRecord}
 use Rattle.rows.specs.declared.row.Row.{Row}
-use Rattle.rows.specs.Reading.{row_of}
+use Rattle.rows.specs.Records.{row_of}
 use Rattle.limit_names.specs.Names.{limit_word}
 use Rattle.choice.specs.declared.ChosenLimit.{ChosenLimit}
 use Rattle.choice.specs.declared.in_force.LimitsInForce.{LimitsInForce}
 use Rattle.choice.specs.declared.in_force.LimitsInForce.TheVariants.{Compulsory}
-use Rattle.choice.specs.Governing.{name_of, limits_of}
+use Rattle.choice.specs.Governors.{name_of, limits_of}
 use Rattle.report.specs.declared.table_row.TableRow.{TableRow}
 use Rattle.report.specs.Rows.{Tabulates}
 use Rattle.report.specs.Shown.{table_row_text}
 use Rattle.report.specs.Headings.{numbered_text, counted_text}
 use Rattle.findings.specs.declared.finding.Finding.{Finding}
 use Rattle.wording.specs.declared.explained.Explained.{Explained}
-use Rattle.report.specs.Explaining.{ExplainedAs, LinesOf}
+use Rattle.report.specs.Explanations.{ExplainedAs, LinesOf}
 use Rattle.report.specs.Findings.{finding_line, FindingsBelow}
 use Rattle.report.specs.Tables.{as_line, TableOf, heading_text, SheetTable}
 

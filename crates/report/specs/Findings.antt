@@ -10,7 +10,7 @@ use Rattle.wording.specs.declared.explained.Explained.{Explained}
 use Rattle.wording.specs.Lines.{line_in_metres}
 use Rattle.report.specs.Headings.{counted_text}
 use Rattle.report.specs.Tables.{as_line}
-use Rattle.report.specs.Explaining.{LinesOf}
+use Rattle.report.specs.Explanations.{LinesOf}
 
 abbrev pub finding_line : Explained → List ℕ
 finding_line e =

@@ -5,7 +5,7 @@ use Rattle.road.specs.declared.road.Road.{Road}
 use Rattle.road.specs.Words.{class_word}
 use Rattle.limit_names.specs.Names.{limit_word}
 use Rattle.choice.specs.declared.ChosenLimit.{ChosenLimit}
-use Rattle.choice.specs.Governing.{name_of}
+use Rattle.choice.specs.Governors.{name_of}
 use Rattle.units.specs.Units.{metres_text}
 
 abbrev pub road_name : Road → List ℕ

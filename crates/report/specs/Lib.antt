@@ -1,8 +1,8 @@
 pub mod Columns
-pub mod Explaining
+pub mod Explanations
 pub mod Findings
 pub mod Headings
 pub mod Rows
 pub mod Shown
 pub mod Tables
-pub mod WritesText
+pub mod Texts

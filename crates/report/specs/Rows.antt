@@ -8,7 +8,7 @@ use Rattle.rows.specs.declared.row.Row.TheVariants as row
 use Rattle.rows.specs.declared.row.Curve.{Curve}
 use Rattle.rows.specs.Curves.{place_of, Calling}
 use Rattle.choice.specs.InForce.{in_force}
-use Rattle.choice.specs.Governing.{limits_of, Governed}
+use Rattle.choice.specs.Governors.{limits_of, Governed}
 use Rattle.choice.specs.declared.governor.Governing.{Governing}
 use Rattle.choice.specs.declared.in_force.LimitsInForce.{LimitsInForce}
 use Rattle.report.specs.declared.table_row.TableRow.{TableRow}

@@ -3,10 +3,10 @@ use Rattle.std.specs.Prelude.{◌≡◌, ℕ, ◌+◌, Bool, List, [], ◌∷◌
 use Rattle.road.specs.declared.road.Road.{Road}
 use Rattle.rows.specs.declared.row.Row.{Row}
 use Rattle.choice.specs.declared.in_force.LimitsInForce.{LimitsInForce}
-use Rattle.choice.specs.Governing.{limits_of}
-use Rattle.rows.specs.Reading.{row_of}
+use Rattle.choice.specs.Governors.{limits_of}
+use Rattle.rows.specs.Records.{row_of}
 use Rattle.report.specs.declared.table_row.TableRow.{TableRow}
-use Rattle.report.specs.declared.writing.Report.{Report}
+use Rattle.report.specs.declared.report.Report.{Report}
 use Rattle.report.specs.Headings.{road_heading, sheet_heading, limits_heading}
 use Rattle.report.specs.Rows.{Tabulates}
 use Rattle.report.specs.Shown.{table_row_text}

@@ -1,10 +1,10 @@
-// Numbers as columns of a table: on the right of ten places.
+//! Numbers as columns of a table: on the right of ten characters.
 ghost use Rattle.std.specs.Prelude.{Some};
 ghost use Rattle.report.specs.Columns.{metres_column, gon_column, percent_column};
 
 use std::fmt;
 
-/// A length in millimetres, any number, as metres with three places; longer than ten places where it has to be.
+/// A length in millimetres, any number, as metres with three decimals; longer than ten characters where it has to be.
 #[derive(Clone, Copy, PartialEq, Eq, Debug)]
 pub struct MetresColumn(pub u32);
 
@@ -18,7 +18,7 @@ impl fmt::Display for MetresColumn {
     }
 }
 
-/// A turn in ten-thousandths of a gon, any number, as gon with four places; longer than ten places where it has to be.
+/// A turn in ten-thousandths of a gon, any number, as gon with four decimals; longer than ten characters where it has to be.
 #[derive(Clone, Copy, PartialEq, Eq, Debug)]
 pub struct GonColumn(pub u32);
 
@@ -32,7 +32,7 @@ impl fmt::Display for GonColumn {
     }
 }
 
-/// A slope in hundredths of a percent, any number, as percent with two places; longer than ten places where it has to be.
+/// A slope in hundredths of a percent, any number, as percent with two decimals; longer than ten characters where it has to be.
 #[derive(Clone, Copy, PartialEq, Eq, Debug)]
 pub struct PercentColumn(pub u32);
 

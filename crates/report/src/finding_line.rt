@@ -1,11 +1,10 @@
-// A finding as a line below the table.
+//! A finding as a line below the table.
 ghost use Rattle.std.specs.Prelude.{Some};
 ghost use Rattle.report.specs.Findings.{finding_line};
 
-use findings::finding::Finding;
+use findings::Finding;
 use std::fmt;
-use wording::explained::Explained;
-use wording::in_metres::InMetres;
+use wording::{Explained, InMetres};
 
 /// A finding as a report has it: `row ROW, rule RULE, WEIGHT: ` and what decides it, in metres and gon.
 #[derive(Clone, Copy)]

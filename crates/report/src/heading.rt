@@ -1,8 +1,8 @@
-// What a table begins with.
+//! What a table begins with.
 ghost use Rattle.std.specs.Prelude.{Some};
 ghost use Rattle.report.specs.Headings.{road_name, road_heading, counted_text, sheet_heading};
 
-use road::road::Road;
+use road::Road;
 use std::fmt;
 use units::Metres;
 

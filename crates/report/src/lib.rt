@@ -2,15 +2,15 @@
 #![tactic(auto)]
 
 pub mod column;
-pub mod explaining;
+pub mod explanation;
 pub mod finding_line;
 pub mod heading;
+pub mod report;
 pub mod table_row;
-pub mod writing;
 
 pub use column::{GonColumn, MetresColumn, PercentColumn};
-pub use explaining::explained;
+pub use explanation::explained;
 pub use finding_line::FindingLine;
 pub use heading::{Counted, RoadHeading, SheetHeading};
+pub use report::Report;
 pub use table_row::TableRow;
-pub use writing::Report;

@@ -1,14 +1,13 @@
-// A row of a sheet as a row of the table.
+//! A row of a sheet as a row of the table.
 ghost use Rattle.std.specs.Prelude.{◌≡◌, Some};
 ghost use Rattle.report.specs.Rows.{Tabulates, GovernsCurve};
 ghost use Rattle.report.specs.Shown.{kind_text, governed_text, table_row_text};
 
 use crate::column::{GonColumn, MetresColumn, PercentColumn};
-use choice::governor::Governing;
-use choice::in_force::LimitsInForce;
-use road::road::Road;
+use choice::{Governing, LimitsInForce};
+use road::Road;
 use roots::clothoid_parameter;
-use rows::row::{Curve, Row, Sense};
+use rows::{Curve, Row, Sense};
 use std::fmt;
 use superelevation::superelevation;
 
@@ -71,7 +70,7 @@ impl TableRow {
     }
 }
 
-// A curve with its sense, in eleven places.
+// A curve with its sense, in eleven characters.
 fn kind(sense: Sense) -> &'static str
     ensures { result.now ≡ kind_text sense }
 {

@@ -3,7 +3,7 @@ use Rattle.std.proofs.Common.{◌≡◌, ℕ, ◌+◌, ◌<◌, ◌≤◌, List,
 use Rattle.std.proofs.lemmas.List.{length-take, length-take-le, length-map, map-append, map_more, take_all, take_at, drop_at, take-append-drop}
 use Rattle.road.specs.declared.road.Road.{Road}
 use Rattle.rows.specs.declared.record.RowRecord.{RowRecord}
-use Rattle.rows.specs.Reading.{row_of, rows_of, blank_record}
+use Rattle.rows.specs.Records.{row_of, rows_of, blank_record}
 use Rattle.findings.specs.declared.finding.Finding.{Finding}
 use Rattle.plain.specs.Sheet.{opened, Call, Answer}
 use Rattle.sheet.specs.States.{State, drafted, shown, Performs}

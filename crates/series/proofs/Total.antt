@@ -5,10 +5,10 @@ use Rattle.std.proofs.lemmas.List.{get_or_default}
 use Rattle.std.specs.List.{insert, remove}
 use Rattle.roots.specs.Roots.{RootUp}
 use Rattle.road.specs.declared.road.Road.{Road}
-use Rattle.road.specs.Opening.{Outside}
+use Rattle.road.specs.Openings.{Outside}
 use Rattle.road.specs.Refusals.{Ground, FirstApplying, Clear}
 use Rattle.rows.specs.Ends.{length_at}
-use Rattle.rows.specs.Reading.{blank_row}
+use Rattle.rows.specs.Records.{blank_row}
 use Rattle.rows.specs.declared.row.Curve.{Curve}
 use Rattle.rows.specs.declared.row.Row.{Row}
 use Rattle.rows.specs.declared.row.Row.TheVariants as row

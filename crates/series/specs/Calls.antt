@@ -1,4 +1,4 @@
--- Sheets, calls and outcomes at run time, and what they are on the plain sheet.
+-- Sheets, calls and outcomes as values, and what they are on the plain sheet.
 use Rattle.std.specs.Prelude.{◌≡◌, ℕ, ◌≤◌, List, [], length, take, drop, min, unwrap_or, Ok, Err, Result}
 use Rattle.road.specs.declared.refusal.Refusal.{Refusal}
 use Rattle.road.specs.declared.road.Road.{Road}

@@ -83,7 +83,7 @@ findings_after_all (x ∷ xs) memory = findings_after_all xs (findings_after x.a
 abbrev pub lent_call : {L : Type 0} → (L → Meaning) → (rows findings : ℕ) → Request L → LentCall
 lent_call meant rows findings q = record { room = min q.room rows; call = λ count. asked meant findings count q.call }
 
--- What is seen of a sheet at run time, with the findings of its check.
+-- What is seen of a sheet, with the findings of its check.
 abbrev pub seen : Sheet → List RowRecord → List Finding → Outcome → Seen
 seen s memory findings a = record { answer = told a findings; sheet = shown (stands s memory) }
 

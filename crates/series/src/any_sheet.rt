@@ -1,4 +1,4 @@
-//! A sheet that is a draft or fitted, as it is known when the program runs, and its calls made by value.
+//! A sheet that is a draft or fitted, whichever it is, and its calls made by value.
 ghost use Rattle.std.specs.Prelude.{◌≡◌, List};
 ghost use Rattle.rows.specs.declared.record.RowRecord.{RowRecord};
 ghost use Rattle.findings.specs.declared.finding.Finding.{Finding};
@@ -11,13 +11,11 @@ ghost use Rattle.series.specs.Laws.{Laws};
 use crate::call::{Call, Request};
 use crate::outcome::Outcome;
 use crate::watcher::Watcher;
-use findings::finding::Finding;
-use limits::limit::Limit;
-use road::refusal::Refusal;
-use road::road::Road;
-use rows::record::RowRecord;
-use sheet::draft::Draft;
-use sheet::fitted::Fitted;
+use findings::Finding;
+use limits::Limit;
+use road::{Refusal, Road};
+use rows::RowRecord;
+use sheet::{Draft, Fitted};
 
 /// A sheet of either mark. It adds no number to the draft or the fitted sheet that it is, and their rows lie in memory that is lent to each call.
 #[derive(Drop)]

@@ -2,8 +2,8 @@
 ghost use Rattle.std.specs.Prelude.{◌≡◌};
 ghost use Rattle.series.specs.Calls.{found_in};
 
-use findings::finding::Finding;
-use road::refusal::Refusal;
+use findings::Finding;
+use road::Refusal;
 
 /// What a call of a sheet gives back when it is made as a value: what the sheet's own method gives, or that the sheet has no such method.
 #[derive(Clone, Copy, PartialEq, Eq, Debug)]

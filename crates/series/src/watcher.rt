@@ -3,8 +3,8 @@ ghost use Rattle.series.specs.Histories.{Seen, seen};
 
 use crate::any_sheet::Sheet;
 use crate::outcome::Outcome;
-use findings::finding::Finding;
-use rows::record::RowRecord;
+use findings::Finding;
+use rows::RowRecord;
 
 /// Who is shown each outcome of [`Sheet::carry_out`](crate::any_sheet::Sheet::carry_out), and the sheet after it.
 pub trait Watcher {

@@ -1,7 +1,7 @@
 -- Whether bytes are a comment is seen after their white space.
 use Rattle.std.proofs.Common.{◌≡◌, ℕ, zero, suc, ◌+◌, ◌<◌, true, false, eqb, List, [], ◌∷◌, length, get_or, drop, sym, refl, ap, ◌∙◌, add-zero, arith, get_or-drop}
 use Rattle.std.specs.Char.{is_ascii_whitespace}
-use Rattle.session.specs.Answering.{comment_bytes}
+use Rattle.session.specs.Lines.{comment_bytes}
 
 pub comment_after : (bs : List ℕ) (n : ℕ) → ((i : ℕ) → i < n → is_ascii_whitespace (get_or bs i 0) ≡ true) → (n < length bs → is_ascii_whitespace (get_or bs n 0) ≡ false) → comment_bytes bs ≡ eqb (get_or bs n 0) 35
 comment_after [] n white dark = refl

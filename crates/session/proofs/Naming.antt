@@ -10,7 +10,7 @@ use Rattle.limit_names.specs.declared.LimitName.TheVariants as names
 use Rattle.limit_names.specs.Names.{limit_word}
 use Rattle.session.specs.declared.limit_words.NoLimits.{NoLimits}
 use Rattle.session.specs.declared.limit_words.NoLimits.TheVariants.{Unreadable, NoMemory}
-use Rattle.session.specs.Choosing.{NamedFirst, FileAt, OfFile}
+use Rattle.session.specs.LimitWords.{NamedFirst, FileAt, OfFile}
 
 -- what fits in a part is the whole
 pub whole : (known : Option (List ℕ)) (items : List ℕ) → IfSome (option_map (take 64_000_001) known) (λ xs. items ≡ xs) → length items ≤ 64_000_000 → IfSome known (λ all. (items ≡ all) × (length all ≤ 64_000_000))

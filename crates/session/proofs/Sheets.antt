@@ -13,17 +13,17 @@ use Rattle.series.specs.Calls.{stands}
 use Rattle.series.specs.Histories.{Seen, History, last_seen, Left, look}
 use Rattle.series.specs.declared.any_sheet.Sheet.{Sheet}
 use Rattle.series.proofs.Lawful.{laws}
-use Rattle.answers.specs.declared.answer.Answer.{Answer}
+use Rattle.answers.specs.declared.line_answer.LineAnswer.{LineAnswer}
 use Rattle.answers.specs.declared.failure.Failure.{Failure}
 use Rattle.answers.specs.declared.verdict.Verdict.{Verdict}
 use Rattle.desk.specs.declared.desk.Desk.{Desk}
 use Rattle.desk.specs.Desk.{rows_in, Same, LaysOut, OpenedAs}
-use Rattle.desk.specs.Calling.{Called, CalledOn}
-use Rattle.desk.specs.Reporting.{Reports}
+use Rattle.desk.specs.Calls.{Called, CalledOn}
+use Rattle.desk.specs.Reports.{Reports}
 use Rattle.session.specs.declared.Session.{Session}
-use Rattle.session.specs.Answering.{CommandLeft, LeftBy, BytesLeft, LineLeft, RowsLeft, LimitLeft, comment_bytes}
+use Rattle.session.specs.Lines.{CommandLeft, LeftBy, BytesLeft, LineLeft, RowsLeft, LimitLeft, comment_bytes}
 use Rattle.session.specs.Faults.{any}
-use Rattle.session.specs.Reading.{LineDone, LinesDone}
+use Rattle.session.specs.Inputs.{LineDone, LinesDone}
 use Rattle.session.specs.Sheets.{Past, call_said, one_call_more, Makes, calling, opening, keeping, LinesMake, Leaves, LinesMakeHistory}
 
 -- what is seen last is what was added last
@@ -52,7 +52,7 @@ module _ (line : ℕ) (d d' : Desk) (text : List ℕ) (v : Verdict) where
       let begun : last_seen (opened road) [] ≡ shown (stands s (rows_in d')) = sym (laws.opens road (rows_in d')).0 ∙ ap shown (sym (lays (rows_in d'))) in
       (Some (record { road = road; calls = []; seen = [] }), opening road s is lays refl, rw is (tt, begun))
 
-  opened_next : (h : Option Past) (given : Result Road Refusal) (answer : Result Answer Failure) → OpenedAs given d d' answer → Leaves h d.sheet (rows_in d) → Next h
+  opened_next : (h : Option Past) (given : Result Road Refusal) (answer : Result LineAnswer Failure) → OpenedAs given d d' answer → Leaves h d.sheet (rows_in d) → Next h
   opened_next h (Ok road) answer is was = laid h road d'.sheet is.1 refl
   opened_next h (Err refusal) answer is was = same_kept h is.1 was
 

@@ -17,9 +17,9 @@ use Rattle.answers.specs.declared.verdict.Verdict.TheVariants.{Answered, Wrong}
 use Rattle.desk.specs.declared.desk.Desk.{Desk}
 use Rattle.desk.specs.Desk.{with_limits, IsOpen}
 use Rattle.report.specs.Tables.{as_line}
-use Rattle.desk.specs.Printing.{wrong_line}
-use Rattle.session.specs.Choosing.{FileAt, unreadable_text, spaced, echo}
-use Rattle.session.specs.Answering.{AreNamed, LimitLeft, BytesLeft, LineLeft, Unmarked, comment_bytes, no_text, too_long}
+use Rattle.desk.specs.Texts.{wrong_line}
+use Rattle.session.specs.LimitWords.{FileAt, unreadable_text, spaced, echo}
+use Rattle.session.specs.Lines.{AreNamed, LimitLeft, BytesLeft, LineLeft, Unmarked, comment_bytes, no_text, too_long}
 
 -- nothing is written
 pub nothing_more : (known : Option (List ℕ)) → Appends known known []

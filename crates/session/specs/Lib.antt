@@ -1,5 +1,5 @@
-pub mod Answering
-pub mod Choosing
+pub mod Lines
+pub mod LimitWords
 pub mod Faults
-pub mod Reading
+pub mod Inputs
 pub mod Sheets

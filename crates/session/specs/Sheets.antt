@@ -11,10 +11,10 @@ use Rattle.answers.specs.declared.verdict.Verdict.{Verdict}
 use Rattle.commands.specs.declared.command.SheetCommand.{SheetCommand}
 use Rattle.desk.specs.declared.desk.Desk.{Desk}
 use Rattle.desk.specs.Desk.{rows_in, findings_in, sheet_on, limits_on}
-use Rattle.desk.specs.Calling.{asks, Called}
+use Rattle.desk.specs.Calls.{asks, Called}
 use Rattle.session.specs.declared.Session.{Session}
 use Rattle.session.specs.Faults.{any}
-use Rattle.session.specs.Reading.{Begun, LineDone, LinesDone}
+use Rattle.session.specs.Inputs.{Begun, LineDone, LinesDone}
 
 -- The past of the open sheet: its road, and since that was opened the calls of its lines, with what was seen after each.
 pub record Past : Type 0 where

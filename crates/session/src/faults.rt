@@ -4,7 +4,7 @@ ghost use Rattle.std.specs.Fmt.{WritesOnOk};
 ghost use Rattle.std.specs.Process.{exit_status};
 ghost use Rattle.session.specs.Faults.{one_more, counted, any, tally_text, faults_text, status_of};
 
-use answers::verdict::Verdict;
+use answers::Verdict;
 use std::fmt;
 use std::process::ExitCode;
 

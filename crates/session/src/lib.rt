@@ -7,11 +7,11 @@ mod line;
 
 ghost use Rattle.std.specs.Prelude.{◌≡◌, List, ℕ, IfOk, OnOk};
 ghost use Rattle.std.specs.Io.KnownBytes.{Appends};
-ghost use Rattle.session.specs.Answering.{bytes_of};
-ghost use Rattle.session.specs.Reading.{Begun, LineDone, faults_of};
+ghost use Rattle.session.specs.Lines.{bytes_of};
+ghost use Rattle.session.specs.Inputs.{Begun, LineDone, faults_of};
 ghost use Rattle.session.specs.Sheets.{LinesMakeHistory};
 
-use desk::desk::Desk;
+use desk::Desk;
 pub use faults::{Faults, Tally};
 use line::answer;
 use std::alloc::{AllocError, Global};

@@ -2,7 +2,7 @@
 ghost use Rattle.std.specs.Prelude.{◌≡◌, ◌+◌, ◌^◌, ◌<◌, ◌≤◌, length, drop, vec_items, IfOk, MatchResult};
 ghost use Rattle.commands.specs.Names.{Names};
 ghost use Rattle.session.specs.declared.limit_words.NoTable.TheVariants.{Unreadable};
-ghost use Rattle.session.specs.Choosing.{WholeTable, LargeIn, no_table_text, NamedFirst, NamesLimits, OfFile, Reads};
+ghost use Rattle.session.specs.LimitWords.{WholeTable, LargeIn, no_table_text, NamedFirst, NamesLimits, OfFile, Reads};
 
 use choice::ChosenLimit;
 use limit_names::{LimitName, limit_name};

@@ -2,27 +2,21 @@
 ghost use Rattle.std.specs.Prelude.{◌≡◌, ◌<◌, List, ℕ, IfOk, OnOk, drop, length};
 ghost use Rattle.std.specs.Io.KnownBytes.{Appends};
 ghost use Rattle.commands.specs.Names.{Names};
-ghost use Rattle.session.specs.Answering.{told_text, verdict_on, comment_bytes, Unmarked, RoadLeft, LabelLeft, RowsLeft, LimitLeft, CommandLeft, TextLeft, BytesLeft, LineLeft, bytes_of};
-ghost use Rattle.session.specs.Choosing.{echo};
+ghost use Rattle.session.specs.Lines.{told_text, verdict_on, comment_bytes, Unmarked, RoadLeft, LabelLeft, RowsLeft, LimitLeft, CommandLeft, TextLeft, BytesLeft, LineLeft, bytes_of};
+ghost use Rattle.session.specs.LimitWords.{echo};
 ghost use Rattle.desk.specs.Desk.{sheet_on};
 ghost use Rattle.report.specs.Tables.{as_line};
-ghost use Rattle.desk.specs.Printing.{wrong_line};
+ghost use Rattle.desk.specs.Texts.{wrong_line};
 
 use crate::limit_words::{NoLimits, named_limits};
-use answers::answer::Answer;
-use answers::failure::Failure;
-use answers::refused::RefusedLine;
-use answers::verdict::Verdict;
-use commands::command::Command;
-use commands::name::Name;
-use commands::parse::{MOST_WORDS, parse};
-use desk::desk::Desk;
-use road::design::RoadDesign;
+use answers::{Failure, LineAnswer, RefusedLine, Verdict};
+use commands::parse::parse;
+use commands::{Command, MOST_WORDS, Name};
+use desk::Desk;
+use road::RoadDesign;
 use std::io;
 use std::io::Write;
-use text::lines::LONGEST_LINE;
-use text::shown::Shown;
-use text::words::words_of;
+use text::{LONGEST_LINE, Shown, words_of};
 
 // Whether the first byte after white space is '#'.
 fn is_comment(bytes: &[u8]) -> bool
@@ -43,7 +37,7 @@ fn tell<W: Write>(
     out: &mut W,
     line: u64,
     command: Command,
-    answer: Result<Answer, Failure>,
+    answer: Result<LineAnswer, Failure>,
 ) -> io::Result<Verdict>
     ensures { IfOk result (λ verdict. (verdict ≡ verdict_on answer) × Appends (W.contents out.old) (W.contents out.new) (told_text line command answer)) }
 {

@@ -7,7 +7,7 @@ use Rattle.road.specs.declared.refusal.Refusal.TheVariants as number
 use Rattle.road.specs.declared.road.Road.{Road}
 use Rattle.rows.specs.declared.record.RowRecord.{RowRecord}
 use Rattle.rows.specs.declared.row.Row.{Row}
-use Rattle.rows.specs.Reading.{row_of, rows_of}
+use Rattle.rows.specs.Records.{row_of, rows_of}
 use Rattle.findings.specs.declared.TooMany.{TooMany}
 use Rattle.findings.specs.declared.TooMany.TheVariants.{Rows, Findings}
 use Rattle.findings.specs.declared.finding.Finding.{Finding}

@@ -2,7 +2,7 @@
 use Rattle.std.proofs.Common.{◌≡◌, ℕ, suc, ◌<◌, ◌≤◌, List, [], ◌∷◌, ◌++◌, map, length, take, drop, Ok, Err, refl, sym, ap, ◌∙◌, subst, inl, inr, arith}
 use Rattle.std.proofs.lemmas.List.{take-append-drop, length-take-le, length-append, length-drop, take_at, drop_at}
 use Rattle.road.specs.declared.road.Road.{Road}
-use Rattle.rows.specs.Reading.{row_of}
+use Rattle.rows.specs.Records.{row_of}
 use Rattle.rows.specs.declared.record.RowRecord.{RowRecord}
 use Rattle.fitting.specs.Fits.{OnlyCurves, Fits}
 use Rattle.plain.specs.Sheet.{fitted, Meaning, marked, with_rows, fit, carrying, done, refused}

@@ -11,12 +11,12 @@ use Rattle.rows.specs.declared.row.Curve.{Curve}
 use Rattle.rows.specs.declared.row.Straight.{Straight}
 use Rattle.rows.specs.declared.row.Row.{Row}
 use Rattle.rows.specs.declared.row.Row.TheVariants as row
-use Rattle.rows.specs.Reading.{row_of, rows_of, record_of, blank_record}
+use Rattle.rows.specs.Records.{row_of, rows_of, record_of, blank_record}
 use Rattle.plain.specs.declared.NewRow.{NewRow}
 use Rattle.plain.specs.declared.NewRow.TheVariants as new
 use Rattle.plain.specs.Sheet.{draft, RowAt, StraightAt, with_rows, Given, WithLengths, add, take_out, set_lengths, Call, named, Answer, done, refused, Allowed, grounds, number_grounds, Effect, refusing, carrying}
 use Rattle.plain.specs.Given.{given_record}
-use Rattle.sheet.specs.States.{State, shown, refusal, MemoryAfter, Performs, Numbered, RecordAt}
+use Rattle.sheet.specs.States.{State, shown, refusal, MemoryAfter, Performs, Numbered, NoRoom, RecordAt}
 use Rattle.sheet.proofs.RowEdits.{rows_inserted, rows_removed, rows_set, length_inserted_within, length_removed_within}
 
 -- a draft's state
@@ -66,6 +66,11 @@ all_clear (new.Curve sense radius turn) others (clear, (clear', _)) rest = (clea
 pub numbers_refused : (s : State) (position : ℕ) (given : NewRow) (e : Refusal) → Allowed s.mark (add position given) → Refused (number_grounds given []) position e → Performs s (add position given) (refusal e) s
 numbers_refused s position given e allowed why =
     rw why.names (halted s (add position given) (number_of e) allowed (numbers_first given _ (number_of e) why.smallest))
+
+-- there is no room for the row
+pub room_refused : (s : State) (position : ℕ) (given : NewRow) (e : Refusal) → Allowed s.mark (add position given) → Clear (number_grounds given []) → NoRoom (length s.memory) s.count position e → Performs s (add position given) (refusal e) s
+room_refused s position given e allowed clear why =
+    rw why.names (halted s (add position given) (number_of e) allowed (numbers_clear given _ (number_of e) clear why.smallest))
 
 -- the record that the added row is kept by
 pub given_record_is : (given : NewRow) (r : Row) → Given given r → record_of r ≡ given_record given

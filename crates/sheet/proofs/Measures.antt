@@ -5,7 +5,7 @@ use Rattle.road.specs.declared.road.Road.{Road}
 use Rattle.road.specs.declared.refusal.Refusal.{Refusal}
 use Rattle.road.specs.Refusals.{ground, number_of}
 use Rattle.rows.specs.Ends.{length_at}
-use Rattle.rows.specs.Reading.{row_of, rows_of}
+use Rattle.rows.specs.Records.{row_of, rows_of}
 use Rattle.rows.specs.declared.end.End.{End}
 use Rattle.rows.specs.declared.record.RowRecord.{RowRecord}
 use Rattle.rows.specs.declared.row.Curve.{Curve}

@@ -9,12 +9,12 @@ use Rattle.rows.specs.declared.record.RowRecord.TheVariants as stored
 use Rattle.rows.specs.declared.row.Curve.{Curve}
 use Rattle.rows.specs.declared.row.Row.{Row}
 use Rattle.rows.specs.declared.row.Row.TheVariants as row
-use Rattle.rows.specs.Reading.{row_of, rows_of, record_of, blank_record}
+use Rattle.rows.specs.Records.{row_of, rows_of, record_of, blank_record}
 use Rattle.findings.specs.declared.finding.Finding.{Finding}
 use Rattle.plain.specs.declared.NewRow.{NewRow}
 use Rattle.plain.specs.Given.{given_record}
 use Rattle.fitting.specs.Fits.{OnlyCurves}
-use Rattle.plain.specs.Sheet.{Mark, draft, fitted, Plain, Call, add, take_out, set_lengths, check, fit, parameter, reopen, Answer, done, found, value, refused, Stopped, number_grounds, Given, StepAt}
+use Rattle.plain.specs.Sheet.{Mark, draft, fitted, Plain, Call, add, take_out, set_lengths, check, fit, parameter, reopen, Answer, done, found, value, refused, Stopped, number_grounds, room_grounds, Given, StepAt}
 use Rattle.sheet.specs.declared.draft.Draft.{Draft}
 use Rattle.sheet.specs.declared.fitted.Fitted.{Fitted}
 
@@ -111,6 +111,10 @@ Untouched (Err r) before after = after ≡ before
 abbrev pub Numbered : ℕ → NewRow → Result RowRecord Refusal → Type 0
 Numbered position given (Ok stored) = Clear (number_grounds given []) × ((r : Row) × Given given r × (stored ≡ record_of r))
 Numbered position given (Err refusal) = Refused (number_grounds given []) position refusal
+
+-- For private contracts: why there is no room for a row at that position.
+abbrev pub NoRoom : (room count position : ℕ) → Refusal → Type 0
+NoRoom room count position refusal = Refused (room_grounds room count position) position refusal
 
 -- For private contracts: what asking for the record at position n gives, record n or the refusal of a memory that is too short or of a row that is not there.
 abbrev pub RecordAt : List RowRecord → (count n : ℕ) → Result RowRecord Refusal → Type 0

@@ -3,16 +3,13 @@ ghost use Rattle.std.specs.Prelude.{◌≤◌};
 
 use crate::fitted::Fitted;
 use crate::records::{check_records, new_record, record_at, records};
-use findings::finding::Finding;
+use findings::Finding;
 use fitting::fit;
-use limits::limit::{LONGEST_CLOTHOID, Limit};
+use limits::{LONGEST_CLOTHOID, Limit};
 use plain::NewRow;
-use road::refusal::Refusal;
-use road::road::Road;
+use road::{Refusal, Road};
 use roll::Roll;
-use rows::range::MOST_ROWS;
-use rows::record::RowRecord;
-use rows::row::Row;
+use rows::{MOST_ROWS, Row, RowRecord};
 
 /// A sheet whose rows may be edited: a road, and how many rows it has. The rows lie in memory that is lent to each call, as records at its front, and a call
 /// whose memory is shorter than they are is refused. A draft is moved and never copied. A call that is refused changes nothing.
@@ -25,10 +22,10 @@ pub struct Draft {
 }
 
 impl Draft {
-    ghost use Rattle.std.specs.Prelude.{◌≡◌, List, length};
+    ghost use Rattle.std.specs.Prelude.{◌≡◌, ◌<◌, ◌⊎◌, List, length};
     ghost use Rattle.rows.specs.declared.record.RowRecord.{RowRecord};
     ghost use Rattle.plain.specs.Sheet.{opened, meaning, add as adding, take_out as striking, set_lengths as setting, check as asking, fit as shortening};
-    ghost use Rattle.sheet.specs.States.{draft_road, draft_count, drafted, shown, edited, listed, fitting_answer, after_fit, Untouched, OnlyLooks, Performs};
+    ghost use Rattle.sheet.specs.States.{draft_road, draft_count, drafted, shown, edited, listed, fitting_answer, after_fit, NoRoom, Untouched, OnlyLooks, Performs};
 
     /// A draft of the road, with no rows yet.
     pub fn open(road: Road) -> Draft
@@ -63,18 +60,32 @@ impl Draft {
         ensures { Performs (drafted self.old rows.old) (adding position new) (edited result) (drafted self.new rows.new) }
     {
         let record = new_record(position, new)?;
-        records(rows, self.count, position)?;
-        if position > self.count {
-            return Err(Refusal::NoSuchRow { row: position });
-        }
-        if self.count >= MOST_ROWS {
-            return Err(Refusal::Full { row: position });
+        // One test where there is room; `no_room` says why there is none.
+        if position > self.count || self.count >= MOST_ROWS || self.count >= rows.len() {
+            return Err(self.no_room(rows.len(), position));
         }
         let mut roll = Roll::over(rows, self.count);
+        // The roll has a spare slot, so it refuses none.
         roll.insert(position, record)
             .map_err(|_| Refusal::Full { row: position })?;
         self.count += 1;
         Ok(())
+    }
+
+    // Why no row can be added at a position, in a memory of so many records.
+    #[cold]
+    #[inline(never)]
+    fn no_room(&self, records: usize, position: usize) -> Refusal
+        requires { (self.now.count < position) ⊎ ((4_000 ≤ self.now.count) ⊎ (records ≤ self.now.count)) }
+        ensures { NoRoom records self.now.count position result }
+    {
+        if records < self.count {
+            Refusal::ShortMemory { row: position }
+        } else if position > self.count {
+            Refusal::NoSuchRow { row: position }
+        } else {
+            Refusal::Full { row: position }
+        }
     }
 
     /// Takes out a row; the rows after it move down, and the freed slot gets the blank row's record.

@@ -3,14 +3,11 @@ ghost use Rattle.std.specs.Prelude.{◌≤◌};
 
 use crate::draft::Draft;
 use crate::records::{check_records, record_at};
-use findings::finding::Finding;
-use limits::limit::Limit;
-use road::refusal::Refusal;
-use road::road::Road;
+use findings::Finding;
+use limits::Limit;
+use road::{Refusal, Road};
 use roots::clothoid_parameter;
-use rows::end::End;
-use rows::record::RowRecord;
-use rows::row::Row;
+use rows::{End, Row, RowRecord};
 
 /// A sheet as a fit left it, with the least lengths in the memory that was lent to that fit: its rows are not edited until it is reopened.
 /// It is moved and never copied. A call that is refused changes nothing.

@@ -3,14 +3,11 @@ ghost use Rattle.std.specs.Prelude.{◌≡◌, ◌<◌, ◌≤◌, MatchResult, 
 ghost use Rattle.plain.specs.Sheet.{Mark, meaning, check as asking};
 ghost use Rattle.sheet.specs.States.{state_of, listed, Untouched, OnlyLooks, Numbered, RecordAt};
 
-use findings::check;
-use findings::finding::Finding;
-use limits::limit::Limit;
+use findings::{Finding, check};
+use limits::Limit;
 use plain::NewRow;
-use road::refusal::Refusal;
-use road::road::Road;
-use rows::record::RowRecord;
-use rows::row::Row;
+use road::{Refusal, Road};
+use rows::{Row, RowRecord};
 
 // The records of the first `count` rows. A memory shorter than the count is refused, naming that row.
 pub(crate) fn records(rows: &[RowRecord], count: usize, row: usize) -> Result<&[RowRecord], Refusal>

@@ -1,4 +1,4 @@
-// The line that is being read.
+//! The line that is being read.
 ghost use Rattle.std.specs.Prelude.{◌≡◌, ◌≤◌, None, Some, [], ◌∷◌, ◌++◌, length, Decides, MatchOption, IfSome, OnOk, OnErr};
 ghost use Rattle.text.specs.Lines.{Grown, NoNewline, WithinLongest};
 

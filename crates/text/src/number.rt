@@ -1,4 +1,4 @@
-// A number as it stands in a line: decimal digits and no sign, leading zeros allowed.
+//! A number as it stands in a line: decimal digits and no sign, leading zeros allowed.
 ghost use Rattle.std.specs.Prelude.{◌-◌, ◌^◌, min, Decides};
 ghost use Rattle.std.specs.Option.{SomeIff};
 ghost use Rattle.std.specs.Str.Parse.{IsNumeral, digits_value};

@@ -1,4 +1,4 @@
-// Text of any origin, as it is shown in a message: it cannot break a line or move the cursor.
+//! Text of any origin, as it is shown in a message: it cannot break a line or move the cursor.
 ghost use Rattle.std.specs.Prelude.{Some};
 ghost use Rattle.std.specs.Fmt.{WritesOnOk};
 ghost use Rattle.text.specs.Shown.{shown_char, shown};

@@ -1,9 +1,9 @@
-// The words of a line.
+//! The words of a line.
 ghost use Rattle.std.specs.Prelude.{◌≡◌, ◌≤◌, length, take, drop};
 ghost use Rattle.text.specs.Words.{Words};
 
 /// Puts the words of the line, or the first of them where there are more than `words` holds, to the front of `words`, and says how many they are.
-/// The places past those stay as they were.
+/// What `words` holds behind those stays as it was.
 pub fn words_of<'a>(line: &'a str, words: &mut [&'a str]) -> usize
     ensures within { result ≤ length words.new }
     ensures front { Words (length words.new) line.now (take result words.new) }

@@ -1,11 +1,11 @@
 // A road and its rows, read from a file of the program's own commands: `road` first, and then `straight` and `curve`.
 use anyhow::{anyhow, bail};
-use commands::command::{Command, SheetCommand};
-use commands::parse::{MOST_WORDS, parse};
+use commands::parse::parse;
+use commands::{Command, MOST_WORDS, SheetCommand};
 use plain::NewRow;
-use road::road::Road;
+use road::Road;
 use std::fs;
-use text::words::words_of;
+use text::words_of;
 
 #[derive(Drop)]
 pub(crate) struct Alignment {

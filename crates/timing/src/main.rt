@@ -15,7 +15,7 @@ use std::process::ExitCode;
 
 const USAGE: &str = "usage: timing FILE ROUNDS";
 
-fn run(rt: &HostRuntime) -> anyhow::Result<()> {
+fn time_file(rt: &HostRuntime) -> anyhow::Result<()> {
     let mut args = env::args(rt)?;
     let _ = args.next();
     let (Some(file), Some(rounds)) = (args.next(), args.next()) else {
@@ -34,7 +34,7 @@ fn run(rt: &HostRuntime) -> anyhow::Result<()> {
 }
 
 fn main(rt: HostRuntime) -> ExitCode {
-    if let Err(e) = run(&rt) {
+    if let Err(e) = time_file(&rt) {
         let _ = eprintln!(rt; "timing: {e}");
         return ExitCode::FAILURE;
     }

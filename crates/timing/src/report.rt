@@ -1,6 +1,6 @@
 // What is printed: the times in nanoseconds, what each check found, and the lengths after the fit.
 use crate::rounds::{Found, Memory, Times};
-use rows::row::Row;
+use rows::Row;
 use std::io;
 use std::io::Write;
 
@@ -18,11 +18,11 @@ fn write_found<W: Write>(out: &mut W, found: &Found) -> io::Result<()> {
 }
 
 fn write_lengths<W: Write>(out: &mut W, memory: &Memory) -> io::Result<()> {
-    for (place, record) in memory.rows.as_slice().iter().take(memory.count).enumerate() {
+    for (row, record) in memory.rows.as_slice().iter().take(memory.count).enumerate() {
         if let Row::Curve(curve) = record.read() {
             let entry = curve.entry;
             let exit = curve.exit;
-            writeln!(out, "{place} {entry} {exit}")?;
+            writeln!(out, "{row} {entry} {exit}")?;
         }
     }
     Ok(())

@@ -1,24 +1,13 @@
 // Rounds of the timed calls: all rows added, the draft checked, fitted, and the fitted sheet checked.
 use crate::input::Alignment;
-use findings::finding::{Finding, Rule, Side, Weight};
-use norma::compulsory::COMPULSORY;
+use findings::{Finding, MOST_FINDINGS};
+use norma::COMPULSORY;
 use plain::NewRow;
-use road::refusal::Refusal;
-use rows::range::MOST_ROWS;
-use rows::record::RowRecord;
-use sheet::draft::Draft;
+use road::Refusal;
+use rows::{MOST_ROWS, RowRecord};
+use sheet::Draft;
 use std::alloc::{AllocError, Global};
 use std::time::{Duration, Instant};
-
-// The most findings of a row.
-const MOST_FINDINGS: usize = 16;
-
-const NO_FINDING: Finding = Finding {
-    row: 0,
-    rule: Rule::AdmittedLength,
-    side: Side::Whole,
-    weight: Weight::Breach,
-};
 
 // The findings memory of a check, and how many findings it wrote.
 #[derive(Drop)]
@@ -30,7 +19,7 @@ pub(crate) struct Found {
 impl Found {
     fn new(heap: Global) -> Result<Found, AllocError> {
         Ok(Found {
-            findings: vec![in heap; NO_FINDING; MOST_ROWS * MOST_FINDINGS]?,
+            findings: vec![in heap; Finding::UNUSED; MOST_ROWS * MOST_FINDINGS]?,
             count: 0,
         })
     }
@@ -79,8 +68,8 @@ impl Times {
 
 fn add_all(draft: &mut Draft, memory: &mut [RowRecord], rows: &[NewRow]) -> Result<(), Refusal> {
     for row in rows {
-        let place = draft.len();
-        draft.add(memory, place, *row)?;
+        let position = draft.len();
+        draft.add(memory, position, *row)?;
     }
     Ok(())
 }

@@ -1,13 +1,11 @@
 // Rows that somebody wrote over: a record with a number outside its range reads as a straight of 1 mm, and every call answers.
 use crate::made::{GARBAGE, UNUSED, curve, new_curve, new_straight, road, straight};
-use findings::finding::Rule;
-use norma::compulsory::COMPULSORY;
-use road::refusal::Refusal;
-use rows::end::End;
-use rows::record::RowRecord;
+use findings::Rule;
+use norma::COMPULSORY;
+use road::Refusal;
 use rows::row::Sense::Left;
-use sheet::draft::Draft;
-use sheet::fitted::Fitted;
+use rows::{End, RowRecord};
+use sheet::{Draft, Fitted};
 use std::process::Abort;
 use std::test::Fail;
 

@@ -1,13 +1,9 @@
 // Roads and rows made for the tests.
-use findings::finding::{Finding, Rule, Side, Weight};
-use limits::place::Place;
+use findings::{Finding, Rule, Side, Weight};
+use limits::Place;
 use plain::NewRow;
-use road::class::Class;
-use road::design::RoadDesign;
-use road::jerk::JerkChoice;
-use road::refusal::Refusal;
-use road::road::Road;
-use rows::record::RowRecord;
+use road::{Class, JerkChoice, Refusal, Road, RoadDesign};
+use rows::RowRecord;
 use rows::row::Sense::{Left, Right};
 
 // What the findings memory holds before a check.

@@ -1,13 +1,10 @@
 // Memory that is too short, or of another length at each call, and what it holds after each refusal.
 use crate::made::{GARBAGE, UNUSED, curve, new_curve, new_straight, road, straight};
-use norma::compulsory::{COMPULSORY, CompulsoryPile};
+use norma::{COMPULSORY, CompulsoryPile};
 use plain::NewRow;
-use road::refusal::Refusal;
-use rows::end::End;
-use rows::record::RowRecord;
-use series::any_sheet::Sheet;
-use series::call::Call;
-use series::outcome::Outcome;
+use road::Refusal;
+use rows::{End, RowRecord};
+use series::{Call, Outcome, Sheet};
 use std::process::Abort;
 use std::test::Fail;
 

@@ -1,9 +1,8 @@
 // Numbers that no line of input reaches.
-use findings::finding::Side;
-use road::refusal::Refusal;
+use findings::Side;
+use road::Refusal;
 use roots::{clothoid_parameter, root_up};
-use superelevation::group::Group;
-use superelevation::{step_radii, superelevation};
+use superelevation::{Group, step_radii, superelevation};
 
 #[test]
 fn roots_at_the_ends(rt: HostRuntime) {

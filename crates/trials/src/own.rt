@@ -2,13 +2,8 @@
 ghost use Rattle.trials.specs.Own.{own, own_lawful};
 
 use crate::made::place;
-use limits::all::AllOf;
-use limits::either::Either;
-use limits::limit::{LONGEST_CLOTHOID, Limit};
-use limits::pile::Pile;
-use limits::place::Place;
-use norma::compulsory::{COMPULSORY, CompulsoryPile};
-use norma::fifth::FifthOfTurnLimit;
+use limits::{AllOf, Either, LONGEST_CLOTHOID, Limit, Pile, Place};
+use norma::{COMPULSORY, CompulsoryPile, FifthOfTurnLimit};
 use std::process::Abort;
 use std::test::Fail;
 

@@ -3,11 +3,9 @@ ghost use Rattle.std.specs.Prelude.{◌≡◌, ◌<◌, ◌+◌, length, slice_s
 ghost use Rattle.series.specs.declared.outcome.Outcome.{Outcome};
 ghost use Rattle.trials.specs.Told.{ToldAs};
 
-use findings::finding::Finding;
-use rows::record::RowRecord;
-use series::any_sheet::Sheet;
-use series::outcome::Outcome;
-use series::watcher::Watcher;
+use findings::Finding;
+use rows::RowRecord;
+use series::{Outcome, Sheet, Watcher};
 
 // As many calls as the test makes.
 pub(crate) const CALLS: usize = 10;

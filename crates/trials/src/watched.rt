@@ -2,14 +2,11 @@
 use crate::made::{UNUSED, new_curve, road};
 use crate::own::OwnLimit;
 use crate::recorder::{CALLS, Recorder};
-use limits::either::Either;
-use norma::compulsory::{COMPULSORY, CompulsoryPile};
-use road::refusal::Refusal;
-use rows::end::End;
-use rows::record::RowRecord;
-use series::any_sheet::Sheet;
-use series::call::{Call, Request};
-use series::outcome::Outcome;
+use limits::Either;
+use norma::{COMPULSORY, CompulsoryPile};
+use road::Refusal;
+use rows::{End, RowRecord};
+use series::{Call, Outcome, Request, Sheet};
 use std::test::Fail;
 
 // Every limit of a series has one type.

@@ -6,7 +6,7 @@ ghost use Rattle.units.specs.Units.{metres_text, gon_text, percent_text, length_
 
 use std::fmt;
 
-/// A length in millimetres, any number, shown in metres with three places: `138.999`.
+/// A length in millimetres, any number, shown in metres with three decimals: `138.999`.
 #[derive(Clone, Copy, PartialEq, Eq, Debug)]
 pub struct Metres(pub u64);
 
@@ -20,7 +20,7 @@ impl fmt::Display for Metres {
     }
 }
 
-/// A turn in ten-thousandths of a gon, any number, shown in gon with four places: `1.9999`.
+/// A turn in ten-thousandths of a gon, any number, shown in gon with four decimals: `1.9999`.
 #[derive(Clone, Copy, PartialEq, Eq, Debug)]
 pub struct Gon(pub u32);
 
@@ -34,7 +34,7 @@ impl fmt::Display for Gon {
     }
 }
 
-/// A slope in hundredths of a percent, any number, shown in percent with two places: `6.47`.
+/// A slope in hundredths of a percent, any number, shown in percent with two decimals: `6.47`.
 #[derive(Clone, Copy, PartialEq, Eq, Debug)]
 pub struct Percent(pub u32);
 

@@ -6,7 +6,7 @@ use Rattle.rows.specs.declared.row.Row.{Row}
 use Rattle.rows.specs.declared.row.Row.TheVariants as row
 use Rattle.rows.specs.declared.row.Straight.{Straight}
 use Rattle.rows.specs.declared.record.RowRecord.{RowRecord}
-use Rattle.rows.specs.Reading.{row_of}
+use Rattle.rows.specs.Records.{row_of}
 use Rattle.wording.specs.declared.neighbours.Neighbour.{Neighbour}
 use Rattle.findings.specs.Around.{straights, total, EndWith, BeginWith, NoStraightFirst}
 use Rattle.wording.specs.Beside.{told, next_curve, longer, latest_curve, last_curve_lem, adjacent, right_before_lem, run_on, RightBefore, LastBefore, FirstAfter, RunIs}

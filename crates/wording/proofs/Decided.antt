@@ -12,7 +12,7 @@ use Rattle.rows.specs.declared.row.Sense.{Sense}
 use Rattle.rows.specs.declared.row.Sense.TheVariants.{Left, Right}
 use Rattle.rows.specs.declared.row.Straight.{Straight}
 use Rattle.rows.specs.Ends.{length_at}
-use Rattle.rows.specs.Reading.{row_of}
+use Rattle.rows.specs.Records.{row_of}
 use Rattle.findings.specs.declared.finding.Rule.{Rule}
 use Rattle.findings.specs.declared.finding.Rule.TheVariants as rule
 use Rattle.findings.specs.declared.finding.Side.{Side}

@@ -6,7 +6,7 @@ use Rattle.rows.specs.declared.row.Curve.{Curve}
 use Rattle.rows.specs.declared.row.Row.{Row}
 use Rattle.rows.specs.declared.row.Row.TheVariants as row
 use Rattle.rows.specs.declared.row.Straight.{Straight}
-use Rattle.rows.specs.Reading.{row_of}
+use Rattle.rows.specs.Records.{row_of}
 use Rattle.findings.specs.declared.finding.Finding.{Finding}
 use Rattle.findings.specs.declared.kind.Kind.{Kind}
 use Rattle.findings.specs.declared.kind.Kind.TheVariants as kind

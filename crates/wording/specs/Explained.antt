@@ -8,7 +8,7 @@ use Rattle.rows.specs.declared.row.Row.{Row}
 use Rattle.rows.specs.declared.row.Row.TheVariants as row
 use Rattle.rows.specs.declared.row.Straight.{Straight}
 use Rattle.rows.specs.Ends.{length_at}
-use Rattle.rows.specs.Reading.{row_of}
+use Rattle.rows.specs.Records.{row_of}
 use Rattle.findings.specs.declared.finding.Rule.TheVariants as rule
 use Rattle.findings.specs.declared.finding.Side.{Side}
 use Rattle.findings.specs.declared.finding.Side.TheVariants as side

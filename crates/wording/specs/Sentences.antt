@@ -11,7 +11,7 @@ use Rattle.wording.specs.declared.reason.Clothoid.{Clothoid}
 use Rattle.wording.specs.declared.reason.Disagreement.{Disagreement}
 use Rattle.wording.specs.declared.reason.Reason.{Reason}
 use Rattle.wording.specs.declared.reason.Reason.TheVariants.{Unadmitted, TooLong, Uncalled, Unequal, Disharmony, NoArc, TightRadius, Disagreeing, SmallTurn, ShortRun, LongRun, SlightTurn}
-use Rattle.figures.specs.Lengths.{longest_of, least_beside, longest_beside, longest_pair_of}
+use Rattle.figures.specs.Lengths.{longest_length_lem, least_beside_lem, longest_beside_lem, longest_pair_lem}
 
 -- At the exit the radii are judged in the return sense.
 abbrev pub sense_text : End → List ℕ
@@ -39,7 +39,7 @@ module _ (scale : Scale) where
   unadmitted_text clothoid None = clothoid_text clothoid ++ codes "; no length is admitted"
 
   abbrev pub too_long_text : Clothoid → (least : Option ℕ) → List ℕ
-  too_long_text clothoid (Some least) = clothoid_text clothoid ++ (codes "; at most " ++ (length_text scale (longest_of least) ++ codes " required"))
+  too_long_text clothoid (Some least) = clothoid_text clothoid ++ (codes "; at most " ++ (length_text scale (longest_length_lem least) ++ codes " required"))
   too_long_text clothoid None = clothoid_text clothoid ++ codes "; at most 3/2 of the least admitted length required"
 
   abbrev pub uncalled_text : Clothoid → List ℕ
@@ -53,12 +53,12 @@ module _ (scale : Scale) where
   disharmony_text before entry =
       codes "entry of " ++ (length_text scale entry ++ (codes " beside the exit of " ++ (length_text scale before.curve.exit ++ (
       codes " in row " ++ (decimal before.row ++ (codes "; " ++ (
-      range_text (least_beside before.curve.exit) (Some (longest_beside before.curve.exit)) ++ codes " required")))))))
+      range_text (least_beside_lem before.curve.exit) (Some (longest_beside_lem before.curve.exit)) ++ codes " required")))))))
 
   abbrev pub no_arc_text : Curve → List ℕ
   no_arc_text c =
       codes "clothoids of " ++ (length_text scale (c.entry + c.exit) ++ (
-      codes " together; at most " ++ (length_text scale (longest_pair_of c) ++ codes " leaves an arc")))
+      codes " together; at most " ++ (length_text scale (longest_pair_lem c) ++ codes " leaves an arc")))
 
   abbrev pub tight_radius_text : (radius least : ℕ) → List ℕ
   tight_radius_text radius least = codes "radius of " ++ (length_text scale radius ++ (codes "; at least " ++ (length_text scale least ++ codes " required")))

@@ -1,8 +1,8 @@
-// A finding with what it speaks of, and how it is shown.
+//! A finding with what it speaks of, and how it is shown.
 use crate::sentence::Sentence;
-use findings::finding::Finding;
-use road::road::Road;
-use rows::record::RowRecord;
+use findings::Finding;
+use road::Road;
+use rows::RowRecord;
 use std::fmt;
 use units::Scale;
 

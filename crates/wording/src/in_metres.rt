@@ -1,4 +1,4 @@
-// What decides a finding, in metres and gon.
+//! What decides a finding, in metres and gon.
 use crate::explained::Explained;
 use crate::sentence::Sentence;
 use std::fmt;

@@ -1,10 +1,9 @@
-// The curves beside a row, and the runs between.
+//! The curves beside a row, and the runs between.
 ghost use Rattle.std.specs.Prelude.{◌≡◌, ◌+◌, ◌<◌, ◌^◌, map, length};
-ghost use Rattle.rows.specs.Reading.{row_of};
+ghost use Rattle.rows.specs.Records.{row_of};
 ghost use Rattle.wording.specs.Beside.{next_curve, last_curve_lem, right_before_lem, run_on};
 
-use rows::record::RowRecord;
-use rows::row::{Curve, Row, Straight};
+use rows::{Curve, Row, RowRecord, Straight};
 
 /// A curve beside a row.
 #[derive(Clone, Copy, Debug, PartialEq, Eq)]

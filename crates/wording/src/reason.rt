@@ -1,8 +1,7 @@
-// Why a finding is given: what decides it, with its figures. Lengths and radii in mm, turns in ten-thousandths of a gon.
+//! Why a finding is given: what decides it, with its figures. Lengths and radii in mm, turns in ten-thousandths of a gon.
 use crate::neighbours::Neighbour;
 use figures::NextRadius;
-use rows::end::End;
-use rows::row::Curve;
+use rows::{Curve, End};
 
 /// A clothoid of a curve.
 #[derive(Clone, Copy, PartialEq, Eq, Debug)]

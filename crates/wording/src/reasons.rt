@@ -2,7 +2,7 @@
 ghost use Rattle.std.specs.Prelude.{◌≡◌, map, IsSome};
 ghost use Rattle.findings.specs.Findings.{Found};
 ghost use Rattle.findings.specs.Rules.{Admission};
-ghost use Rattle.rows.specs.Reading.{row_of};
+ghost use Rattle.rows.specs.Records.{row_of};
 ghost use Rattle.findings.specs.declared.finding.Rule.TheVariants as rule;
 ghost use Rattle.wording.specs.Explained.{Explains};
 ghost use Rattle.wording.specs.Reasons.{end_at_lem, unadmitted_of, clothoid_at, disharmony_of, disagreement_of, curve_reason_by, short_run_of, run_reason_by, reason_of};
@@ -13,10 +13,8 @@ use crate::neighbours::{curve_right_before, first_curve, last_curve, run_from};
 use crate::reason::{Clothoid, Disagreement, Reason};
 use figures::radii::{least_radius, next_radius};
 use figures::runs::{longest_run, shortest_run};
-use findings::finding::{Rule, Side};
-use rows::end::End;
-use rows::record::RowRecord;
-use rows::row::{Curve, Row, Straight};
+use findings::{Rule, Side};
+use rows::{Curve, End, Row, RowRecord, Straight};
 
 // The end of a curve that a side is, if it is one.
 fn end_at(side: Side) -> Option<End>

@@ -1,4 +1,4 @@
-// What decides a finding, as one sentence: what stands there, and after a semicolon what its rule requires or advises.
+//! What decides a finding, as one sentence: what stands there, and after a semicolon what its rule requires or advises.
 ghost use Rattle.std.specs.Prelude.{Some};
 ghost use Rattle.std.specs.Fmt.{WritesOnOk};
 ghost use Rattle.wording.specs.Sentences.{clothoid_text, over_text, range_text, sense_text, unadmitted_text, too_long_text, uncalled_text, unequal_text, disharmony_text, no_arc_text, tight_radius_text, disagreement_text, small_turn_text, short_run_text, long_run_text, slight_turn_text, reason_text, sentence_text};
@@ -7,8 +7,7 @@ use crate::neighbours::Neighbour;
 use crate::reason::{Clothoid, Disagreement, Reason};
 use figures::ADVISED_TURN;
 use figures::lengths::{harmonious_entries, longest_length, longest_pair};
-use rows::end::End;
-use rows::row::Curve;
+use rows::{Curve, End};
 use std::fmt;
 use units::Scale;
 

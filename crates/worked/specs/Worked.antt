@@ -7,7 +7,7 @@ use Rattle.road.specs.declared.class.Class.TheVariants.{C}
 use Rattle.road.specs.declared.jerk.JerkChoice.TheVariants.{Usual}
 use Rattle.road.specs.declared.design.RoadDesign.{RoadDesign}
 use Rattle.road.specs.declared.road.Road.{Road}
-use Rattle.road.specs.Opening.{Holds}
+use Rattle.road.specs.Openings.{Holds}
 use Rattle.limits.specs.declared.place.Place.{Place}
 use Rattle.limits.specs.Admission.{In}
 use Rattle.limits.specs.Least.{Smallest}

@@ -5,11 +5,7 @@ ghost use Rattle.std.specs.Prelude.{◌≡◌, Ok};
 ghost use Rattle.worked.specs.Worked.{Worked, example_label};
 
 use label::Label;
-use road::class::Class;
-use road::design::RoadDesign;
-use road::jerk::JerkChoice;
-use road::refusal::Refusal;
-use road::road::Road;
+use road::{Class, JerkChoice, Refusal, Road, RoadDesign};
 
 /// The label of the example curve: a conventional road for 100 km/h with one lane of 3.5 m turning and the usual J, 1,000 m and 30 gon.
 pub fn worked_label() -> Result<Label, Refusal>

@@ -3,7 +3,7 @@ use Rattle.std.proofs.lemmas.List.{get_or_default}
 use Rattle.limits.specs.Admission.{In}
 use Rattle.limits.specs.Least.{LeastOf}
 use Rattle.choice.specs.Chosen.{chosen, chosen_lawful}
-use Rattle.choice.specs.Governing.{name_of}
+use Rattle.choice.specs.Governors.{name_of}
 use Rattle.choice.specs.declared.ChosenLimit.TheVariants.{Comfort}
 use Rattle.choice.proofs.Governors.{one_least, none_there, option_same, option_other, one_more}
 use Rattle.choice.proofs.governor.first_governing.Goals as goal

@@ -1,5 +1,5 @@
 use Rattle.std.proofs.Common.{◌≡◌, ℕ, List, [], ◌∷◌, ◌++◌, sym, ap, ◌∙◌, subst, append_assoc}
-use Rattle.session.specs.Reading.{LineDone}
+use Rattle.session.specs.Inputs.{LineDone}
 use Rattle.clothoid.proofs.Reading.{same_line, answered_line, answered_part, answered_then, answered_stopped}
 use Rattle.clothoid.proofs.reader.answer_chunk.Goals as goal
 

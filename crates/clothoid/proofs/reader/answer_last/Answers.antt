@@ -1,6 +1,6 @@
 use Rattle.std.proofs.Common.{◌≢◌, [], Some, sym, ◌∙◌, subst}
 use Rattle.std.proofs.lemmas.Result.{on_ok_weaker}
-use Rattle.session.specs.Reading.{LineDone}
+use Rattle.session.specs.Inputs.{LineDone}
 use Rattle.clothoid.proofs.Reading.{same_line, last_done}
 use Rattle.clothoid.proofs.reader.answer_last.Goals as goal
 

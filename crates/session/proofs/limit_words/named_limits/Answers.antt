@@ -3,7 +3,7 @@ use Rattle.std.proofs.lemmas.Result.{err_from_is_err_and}
 use Rattle.std.proofs.lemmas.List.{drop-drop, length-drop, append-nil, take_rest}
 use Rattle.std.proofs.Math.ListN.{drop_of_length-le}
 use Rattle.commands.specs.Names.{Names}
-use Rattle.session.specs.Choosing.{NamedFirst, NamesLimits, FileAt, OfFile}
+use Rattle.session.specs.LimitWords.{NamedFirst, NamesLimits, FileAt, OfFile}
 use Rattle.session.proofs.Naming.{taken_so, file_behind, of_all}
 use Rattle.session.proofs.limit_words.named_limits.Goals as goal
 

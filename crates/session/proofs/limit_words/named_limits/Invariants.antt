@@ -1,7 +1,7 @@
 use Rattle.std.proofs.Common.{ℕ, List, ◌++◌, ◌+◌, ◌-◌, ◌≤◌, length, drop, vec_items}
 use Rattle.commands.specs.Names.{Names}
 use Rattle.choice.specs.declared.ChosenLimit.{ChosenLimit}
-use Rattle.session.specs.Choosing.{NamesLimits, FileAt}
+use Rattle.session.specs.LimitWords.{NamesLimits, FileAt}
 use Rattle.session.proofs.limit_words.named_limits.Given as goal
 
 -- whatever limits the words that are left name, with those before they are what all words name; and a file that is named among those that are left is one of all

@@ -4,8 +4,8 @@ use Rattle.desk.specs.Desk.{with_limits}
 use Rattle.choice.specs.declared.in_force.LimitsInForce.TheVariants.{Named}
 use Rattle.commands.specs.declared.name.Name.TheVariants as name
 use Rattle.answers.specs.declared.verdict.Verdict.TheVariants.{Wrong}
-use Rattle.session.specs.Choosing.{NamesLimits, OfFile}
-use Rattle.session.specs.Answering.{AreNamed, LimitLeft}
+use Rattle.session.specs.LimitWords.{NamesLimits, OfFile}
+use Rattle.session.specs.Lines.{AreNamed, LimitLeft}
 use Rattle.session.proofs.Telling.{not_open, limit_named, limit_unreadable}
 use Rattle.session.proofs.line.limit.Goals as goal
 

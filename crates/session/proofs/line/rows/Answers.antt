@@ -1,7 +1,7 @@
 use Rattle.std.proofs.Common.{refl}
 use Rattle.commands.specs.declared.name.Name.TheVariants as name
 use Rattle.answers.specs.declared.verdict.Verdict.TheVariants.{Wrong}
-use Rattle.session.specs.Answering.{RowsLeft}
+use Rattle.session.specs.Lines.{RowsLeft}
 use Rattle.session.proofs.Telling.{not_open}
 use Rattle.session.proofs.line.rows.Goals as goal
 

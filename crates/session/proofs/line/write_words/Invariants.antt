@@ -1,7 +1,7 @@
 use Rattle.std.proofs.Common.{take}
 use Rattle.std.specs.Io.KnownBytes.{Appends}
 use Rattle.std.specs.List.{flat_map}
-use Rattle.session.specs.Choosing.{spaced}
+use Rattle.session.specs.LimitWords.{spaced}
 use Rattle.session.proofs.line.write_words.Given as goal
 
 abbrev pub invariant-loop-word : goal.invariant-loop-word

@@ -1,5 +1,5 @@
 use Rattle.std.proofs.Common.{◌≡◌, ◌+◌, map, drop}
-use Rattle.rows.specs.Reading.{row_of}
+use Rattle.rows.specs.Records.{row_of}
 use Rattle.wording.specs.Beside.{next_curve}
 use Rattle.wording.proofs.neighbours.first_curve.Given as goal
 

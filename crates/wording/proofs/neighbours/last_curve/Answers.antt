@@ -1,5 +1,5 @@
 use Rattle.std.proofs.Common.{◌≡◌, ◌^◌, ◌<◌, map, None, refl, sym, ◌∙◌, arith}
-use Rattle.rows.specs.Reading.{row_of}
+use Rattle.rows.specs.Records.{row_of}
 use Rattle.rows.specs.declared.row.Row.TheVariants as row
 use Rattle.wording.proofs.Beside.{told_again, back_to_straight, back_to_curve}
 use Rattle.wording.proofs.neighbours.last_curve.Goals as goal

@@ -1,5 +1,5 @@
 use Rattle.std.proofs.Common.{◌≡◌, ◌^◌, ◌<◌, map, length}
-use Rattle.rows.specs.Reading.{row_of}
+use Rattle.rows.specs.Records.{row_of}
 use Rattle.wording.specs.Beside.{longer, last_curve_lem}
 use Rattle.wording.proofs.neighbours.last_curve.Given as goal
 

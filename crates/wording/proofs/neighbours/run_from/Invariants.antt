@@ -1,5 +1,5 @@
 use Rattle.std.proofs.Common.{◌≡◌, map, drop}
-use Rattle.rows.specs.Reading.{row_of}
+use Rattle.rows.specs.Records.{row_of}
 use Rattle.wording.specs.Beside.{run_on}
 use Rattle.wording.proofs.neighbours.run_from.Given as goal
 

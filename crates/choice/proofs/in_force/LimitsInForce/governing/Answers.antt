@@ -1,5 +1,5 @@
 use Rattle.std.proofs.Common.{subst, sym}
-use Rattle.choice.specs.Governing.{limits_of, Governed}
+use Rattle.choice.specs.Governors.{limits_of, Governed}
 use Rattle.choice.specs.declared.in_force.LimitsInForce.TheVariants.{Compulsory}
 use Rattle.choice.proofs.Governors.{compulsory_is}
 use Rattle.choice.proofs.in_force.LimitsInForce.governing.Goals as goal

@@ -2,7 +2,7 @@ use Rattle.std.proofs.Common.{◌≡◌, Some, refl, sym, ap, ◌∙◌, length,
 use Rattle.std.proofs.lemmas.List.{with_items_is}
 use Rattle.series.specs.Calls.{asked, told, found_in, count_of}
 use Rattle.series.proofs.Carried.{over_by}
-use Rattle.desk.specs.Calling.{meant, asks}
+use Rattle.desk.specs.Calls.{meant, asks}
 use Rattle.desk.proofs.Calls.{calls}
 use Rattle.desk.proofs.desk.Desk.call.Goals as goal
 

@@ -1,5 +1,5 @@
 use Rattle.std.proofs.Common.{rules, ◌≡◌, Some, Ok}
-use Rattle.answers.specs.declared.answer.Answer.TheVariants.{Labelled}
+use Rattle.answers.specs.declared.line_answer.LineAnswer.TheVariants.{Labelled}
 use Rattle.desk.specs.Desk.{label_answer}
 use Rattle.desk.proofs.Labels.{label_on}
 use Rattle.desk.proofs.desk.Desk.label.Goals as goal

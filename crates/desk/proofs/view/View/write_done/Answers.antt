@@ -1,5 +1,5 @@
 use Rattle.std.proofs.Common.{length, ◌++◌, ap}
-use Rattle.answers.specs.declared.answer.Answer.TheVariants.{Fitted}
+use Rattle.answers.specs.declared.line_answer.LineAnswer.TheVariants.{Fitted}
 use Rattle.answers.specs.Shown.{answer_text}
 use Rattle.report.specs.Tables.{as_line}
 use Rattle.report.proofs.Tables.{append_both}

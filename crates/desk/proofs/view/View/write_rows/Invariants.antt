@@ -1,7 +1,7 @@
 use Rattle.std.proofs.Common.{map, take}
 use Rattle.std.specs.Io.KnownBytes.{Appends}
-use Rattle.rows.specs.Reading.{row_of}
-use Rattle.desk.specs.Printing.{rows_text}
+use Rattle.rows.specs.Records.{row_of}
+use Rattle.desk.specs.Texts.{rows_text}
 use Rattle.desk.proofs.view.View.write_rows.Given as goal
 
 abbrev pub invariant-loop-position : goal.invariant-loop-position

@@ -1,7 +1,7 @@
 use Rattle.std.proofs.Common.{ℕ, List, map, take}
 use Rattle.std.specs.Io.KnownBytes.{Appends}
-use Rattle.rows.specs.Reading.{row_of}
-use Rattle.desk.specs.Printing.{SetOutList}
+use Rattle.rows.specs.Records.{row_of}
+use Rattle.desk.specs.Texts.{SetOutList}
 use Rattle.desk.proofs.view.View.write_set_out.Given as goal
 
 abbrev pub invariant-loop-position : goal.invariant-loop-position

@@ -1,5 +1,5 @@
 use Rattle.std.proofs.Common.{refl, ap, ◌∙◌, arith, rules}
-use Rattle.rows.specs.Reading.{row_of}
+use Rattle.rows.specs.Records.{row_of}
 use Rattle.std.proofs.lemmas.Result.{err_from_is_err_and}
 use Rattle.sheet.proofs.Keeps.{halted, relengthened, no_record, no_curve}
 use Rattle.sheet.proofs.draft.Draft.set_lengths.Goals as goal

@@ -1,7 +1,7 @@
 use Rattle.std.proofs.Common.{◌≡◌, refl, rules}
 use Rattle.road.specs.declared.refusal.Refusal.TheVariants as number
 use Rattle.std.proofs.lemmas.Result.{err_from_is_err_and}
-use Rattle.rows.specs.Reading.{blank_record}
+use Rattle.rows.specs.Records.{blank_record}
 use Rattle.sheet.proofs.Errors.{given_err, given_ok, not_removed}
 use Rattle.sheet.proofs.Keeps.{halted, taken_out, turned_down}
 use Rattle.sheet.proofs.draft.Draft.take_out.Goals as goal

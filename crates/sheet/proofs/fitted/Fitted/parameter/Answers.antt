@@ -1,6 +1,6 @@
 use Rattle.std.proofs.Common.{◌∙◌, ap}
 use Rattle.std.proofs.lemmas.Result.{err_from_is_err_and}
-use Rattle.rows.specs.Reading.{row_of}
+use Rattle.rows.specs.Records.{row_of}
 use Rattle.sheet.proofs.Measures.{unrecorded, straight, curve}
 use Rattle.sheet.proofs.fitted.Fitted.parameter.Goals as goal
 
